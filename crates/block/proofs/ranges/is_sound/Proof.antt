@@ -1,0 +1,38 @@
+-- `block::ranges::is_sound` meets its contract: the words before the index are in their ranges.
+-- Assumes nothing.
+use borrow.Author.Needs.{needs}
+use Prim.Native.Nat.{_≤_, _-_}
+use mathlib.Core.Path.{_≡_, refl, sym, _∙_}
+use mathlib.Core.Bool.{true}
+use native.Mathlib.Numerals.{add-one}
+use native.Mathlib.Omega.{arith}
+use Rattle.block.specs.Layout.{ranged}
+use Rattle.block.specs.Ranges.{inRanges}
+use Rattle.block.proofs.Sound.{outside-unsound, one-more, all-in}
+use Rattle.block.proofs.ranges.is_sound.Statement.{statement}
+use Rattle.block.proofs.ranges.is_sound.Tie as tie
+
+abbrev Inv-loop : tie.InvT-loop
+Inv-loop block at₀ at = (at ≤ ranged) × (inRanges block at ≡ true)
+
+abbrev μ-loop : tie.MeasureT-loop
+μ-loop block at₀ at = ranged - at
+
+loop-holds : tie.Need-loop-holds Inv-loop μ-loop
+unfolding inRanges
+loop-holds c = (omega arith, refl)
+
+loop-again : tie.Need-loop-again Inv-loop μ-loop
+loop-again c = (search needs, rw add-one (one-more _ _ (c .before .before .before .before .loop .inv .1) (sym (c .before .in-range .ensures) ∙ c .if1 .taken)))
+
+returns : tie.Need-returns Inv-loop μ-loop
+returns c = sym (outside-unsound _ (c .before .before .before .before .loop .at) (search needs) (sym (c .before .in-range .ensures) ∙ c .if1 .left))
+
+returns-2 : tie.Need-returns-2 Inv-loop μ-loop
+returns-2 c = sym (all-in _ _ (search needs) (c .before .before .before .loop .inv .1))
+
+pub is-sound-spec : {M : Type 1} → statement M
+is-sound-spec =
+    tie.close
+    (tie.spec Inv-loop μ-loop loop-holds (search needs) (search needs) (search needs) (search needs) (search needs) loop-again returns (search needs)
+    (search needs) returns-2)

@@ -1,0 +1,16 @@
+-- `block::status::common` meets its contract: seven terms, each from what its call ensures.
+-- Assumes nothing.
+use Rattle.block.specs.Status.{common}
+use borrow.Author.Needs.{needs}
+use Rattle.block.proofs.status.common.Statement.{statement}
+use Rattle.block.proofs.status.common.Tie as tie
+
+returns : tie.Need-returns
+unfolding common
+returns c = cc
+
+pub common-spec : {M : Type 1} → statement M
+common-spec =
+    tie.close
+    (tie.spec (search needs) (search needs) (search needs) (search needs) (search needs) (search needs) (search needs) (search needs) (search needs)
+    (search needs) (search needs) (search needs) (search needs) returns)

@@ -1,0 +1,12 @@
+-- `block::status::rule` meets its contract, from what `latched` ensures.
+-- Assumes nothing.
+use Rattle.word.proofs.Branches.{branches}
+use borrow.Author.Needs.{needs}
+use Rattle.block.proofs.status.rule.Statement.{statement}
+use Rattle.block.proofs.status.rule.Tie as tie
+
+returns : tie.Need-returns
+returns c = search (branches, c .latched .ensures)
+
+pub rule-spec : {M : Type 1} → statement M
+rule-spec = tie.close (tie.spec (search needs) (search needs) (search needs) (search needs) (search needs) returns)

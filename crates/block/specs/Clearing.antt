@@ -1,0 +1,31 @@
+-- Clearing the FIFOs and stopping the transmitter (paper 01, "Fates", "Transmit" and "Channel settings").
+use Prim.Native.Nat.{ℕ, _+_, _%_, _^_}
+use mathlib.Core.List.{List}
+use lib.ListN.{set}
+use Rattle.block.specs.Layout.{word, receiveLevel, receiveCleared, transmitLevel, transmitCleared, state, address, asyncMark}
+
+-- "Each is a 32-bit count that rolls over": a count with n more
+abbrev pub counted : ℕ → ℕ → ℕ
+counted count n = (count + n) % 2 ^ 32
+
+-- "Clearing adds the level it found": a FIFO with its level and its cleared count at these words
+abbrev pub cleared : ℕ → ℕ → List ℕ → List ℕ
+cleared level count b = set (set b count (counted (word b count) (word b level))) level 0
+
+abbrev pub receiveFifoCleared : List ℕ → List ℕ
+receiveFifoCleared b = cleared receiveLevel receiveCleared b
+
+abbrev pub transmitFifoCleared : List ℕ → List ℕ
+transmitFifoCleared b = cleared transmitLevel transmitCleared b
+
+-- "idle", the first of the states idle, running, paused
+abbrev pub idle : ℕ
+idle = 0
+
+-- "to idle, command 0"
+abbrev pub stopped : List ℕ → List ℕ
+stopped b = set (set b state idle) address 0
+
+-- "idle at command 0 and drops the async word; its FIFO stays"
+abbrev pub forgotten : List ℕ → List ℕ
+forgotten b = set (stopped b) asyncMark 0

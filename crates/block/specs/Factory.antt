@@ -1,0 +1,18 @@
+-- Factory values (paper 01, "Channel settings").
+use Prim.Native.Nat.{ℕ, _-_}
+use mathlib.Core.List.{List, [], _∷_, _++_}
+use lib.ListN.{replicate, length}
+use lib.Seq.{sets}
+use Rattle.block.specs.Layout.{settings, receiver, blockWords}
+
+-- "Factory: receiver, transmitter, match and stamps off, parity on, FIFO mode, bounded, immediate"; size 255, thresholds 128 and 32, rate 4
+abbrev pub factorySettings : List ℕ
+factorySettings = 0 ∷ 0 ∷ 1 ∷ 0 ∷ 0 ∷ 0 ∷ 0 ∷ 0 ∷ 255 ∷ 128 ∷ 32 ∷ 4 ∷ []
+
+-- a block of n words as power-up leaves it: factory settings, and 0 in every other word
+abbrev pub factoryOf : ℕ → List ℕ
+factoryOf n = factorySettings ++ replicate (n - settings) 0
+
+-- "settings to factory"
+abbrev pub settingsToFactory : List ℕ → List ℕ
+settingsToFactory b = sets b receiver factorySettings

@@ -1,0 +1,9 @@
+pub mod Layout
+pub mod Ranges
+pub mod Factory
+pub mod Clearing
+pub mod Settings
+pub mod Matching
+pub mod Memories
+pub mod Status
+pub mod Tests

@@ -1,0 +1,60 @@
+// Clearing the FIFOs and stopping the transmitter.
+use crate::layout::ADDRESS;
+use crate::layout::ASYNC_MARK;
+use crate::layout::RECEIVE_CLEARED;
+use crate::layout::RECEIVE_LEVEL;
+use crate::layout::STATE;
+use crate::layout::TRANSMIT_CLEARED;
+use crate::layout::TRANSMIT_LEVEL;
+ghost use mathlib.Core.Path.{_≡_};
+ghost use Rattle.block.specs.Layout.{Whole};
+ghost use Rattle.block.specs.Clearing.{receiveFifoCleared, transmitFifoCleared, stopped, forgotten};
+
+// The transmitter's states.
+pub const IDLE: u32 = 0;
+
+pub const RUNNING: u32 = 1;
+
+pub const PAUSED: u32 = 2;
+
+// Clears the receive FIFO and counts what it held.
+pub fn clear_receive(block: &mut [u32])
+    requires { ⌜ Whole (now block) ⌝ }
+    ensures { λ r. ⌜ now (block .exit) ≡ receiveFifoCleared (now (block .entry)) ⌝ }
+{
+    block[RECEIVE_CLEARED] = std::num::wrapping_add_u32(
+        block[RECEIVE_CLEARED],
+        block[RECEIVE_LEVEL],
+    );
+    block[RECEIVE_LEVEL] = 0;
+}
+
+// Clears the transmit FIFO and counts what it held.
+pub fn clear_transmit(block: &mut [u32])
+    requires { ⌜ Whole (now block) ⌝ }
+    ensures { λ r. ⌜ now (block .exit) ≡ transmitFifoCleared (now (block .entry)) ⌝ }
+{
+    block[TRANSMIT_CLEARED] = std::num::wrapping_add_u32(
+        block[TRANSMIT_CLEARED],
+        block[TRANSMIT_LEVEL],
+    );
+    block[TRANSMIT_LEVEL] = 0;
+}
+
+// Makes the transmitter idle at command 0.
+pub fn stop(block: &mut [u32])
+    requires { ⌜ Whole (now block) ⌝ }
+    ensures { λ r. ⌜ now (block .exit) ≡ stopped (now (block .entry)) ⌝ }
+{
+    block[STATE] = IDLE;
+    block[ADDRESS] = 0;
+}
+
+// Makes the transmitter idle at command 0 and drops the async word.
+pub fn forget(block: &mut [u32])
+    requires { ⌜ Whole (now block) ⌝ }
+    ensures { λ r. ⌜ now (block .exit) ≡ forgotten (now (block .entry)) ⌝ }
+{
+    stop(block);
+    block[ASYNC_MARK] = 0;
+}

@@ -1,0 +1,56 @@
+// Factory values.
+use crate::layout::ALMOST_EMPTY;
+use crate::layout::ALMOST_FULL;
+use crate::layout::FIFO_KIND;
+use crate::layout::MATCH;
+use crate::layout::PARITY;
+use crate::layout::RATE;
+use crate::layout::RECEIVE_MODE;
+use crate::layout::RECEIVE_SIZE;
+use crate::layout::RECEIVER;
+use crate::layout::STAMPS;
+use crate::layout::TRANSMIT_MODE;
+use crate::layout::TRANSMITTER;
+ghost use mathlib.Core.Path.{_≡_};
+ghost use lib.ListN.{length, replicate};
+ghost use Rattle.block.specs.Layout.{Whole, blockWords};
+ghost use Rattle.block.specs.Factory.{settingsToFactory, factoryOf};
+
+// Puts the settings back to their factory values.
+pub fn reset_settings(block: &mut [u32])
+    requires { ⌜ Whole (now block) ⌝ }
+    ensures { λ r. ⌜ now (block .exit) ≡ settingsToFactory (now (block .entry)) ⌝ }
+{
+    block[RECEIVER] = 0;
+    block[TRANSMITTER] = 0;
+    block[PARITY] = 1;
+    block[MATCH] = 0;
+    block[STAMPS] = 0;
+    block[RECEIVE_MODE] = 0;
+    block[FIFO_KIND] = 0;
+    block[TRANSMIT_MODE] = 0;
+    block[RECEIVE_SIZE] = 255;
+    block[ALMOST_FULL] = 128;
+    block[ALMOST_EMPTY] = 32;
+    block[RATE] = word::Gap::LEAST;
+}
+
+// Fills words with zeros.
+fn zero(words: &mut [u32])
+    ensures { λ r. ⌜ now (words .exit) ≡ replicate (length (now (words .entry))) 0 ⌝ }
+{
+    let mut at = 0;
+    while at < words.len() {
+        words[at] = 0;
+        at += 1;
+    }
+}
+
+// Fills a block as power-up leaves it.
+pub fn fill(block: &mut [u32])
+    requires { ⌜ Whole (now block) ⌝ }
+    ensures { λ r. ⌜ now (block .exit) ≡ factoryOf blockWords ⌝ }
+{
+    zero(block);
+    reset_settings(block);
+}

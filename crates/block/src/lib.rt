@@ -1,0 +1,10 @@
+// A channel's words: one part of the lent memory, of exactly the words that a channel needs.
+pub mod clearing;
+pub mod factory;
+pub mod layout;
+pub mod matching;
+pub mod memories;
+pub mod ranges;
+pub mod settings;
+pub mod status;
+pub mod tests;

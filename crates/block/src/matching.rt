@@ -1,0 +1,40 @@
+// The match set: a bit for each of the 1,024 SDI/Label indices.
+use crate::layout::MATCH_SET;
+ghost use mathlib.Core.Path.{_≡_};
+ghost use Prim.Native.Nat.{_<_, _≤_, _^_};
+ghost use Rattle.block.specs.Layout.{Whole};
+ghost use Rattle.block.specs.Matching.{matched, matchWritten, withBit};
+
+// The weight of bit `place` in a word.
+fn weight(place: u32) -> u32
+    requires { ⌜ place < 32 ⌝ }
+    ensures { λ r. ⌜ r ≡ 2 ^ place ⌝ }
+{
+    1 << place
+}
+
+// A word with `value` in the place of one bit.
+fn with_bit(word: u32, place: u32, value: u32) -> u32
+    requires { ⌜ (place < 32) × (value ≤ 1) ⌝ }
+    ensures { λ r. ⌜ r ≡ withBit word place value ⌝ }
+{
+    let p = weight(place);
+    (word / p / 2 * 2 + value) * p + word % p
+}
+
+// Whether an index is in the match set: 1 or 0.
+pub fn read(block: &[u32], index: u32) -> u32
+    requires { ⌜ (Whole (now block)) × (index < 1024) ⌝ }
+    ensures { λ r. ⌜ r ≡ matched index (now (block .entry)) ⌝ }
+{
+    (block[MATCH_SET + ((index / 32) as usize)] >> (index % 32)) % 2
+}
+
+// Puts an index into the match set (1) or takes it out (0).
+pub fn write(block: &mut [u32], index: u32, value: u32)
+    requires { ⌜ (Whole (now block)) × (index < 1024) × (value ≤ 1) ⌝ }
+    ensures { λ r. ⌜ now (block .exit) ≡ matchWritten index value (now (block .entry)) ⌝ }
+{
+    let at = MATCH_SET + ((index / 32) as usize);
+    block[at] = with_bit(block[at], index % 32, value);
+}

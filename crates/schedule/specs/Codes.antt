@@ -1,0 +1,57 @@
+-- The numbers of a schedule and what stands in a command (paper 01, "Transmit").
+use Prim.Native.Nat.{ℕ, _/_, _%_}
+
+-- "States: idle, running, paused"
+abbrev pub idle : ℕ
+idle = 0
+
+abbrev pub running : ℕ
+running = 1
+
+abbrev pub paused : ℕ
+paused = 2
+
+-- "bits 15 to 12"; "Other bits are ignored"
+abbrev pub code : ℕ → ℕ
+code command = command / 4096 % 16
+
+-- "message RAM at bits 7 to 0"
+abbrev pub messageAddress : ℕ → ℕ
+messageAddress command = command % 256
+
+-- "to address in bits 8 to 0"
+abbrev pub target : ℕ → ℕ
+target command = command % 512
+
+-- the codes of the table: "0 stop", "1 message", "2 gap", "3 fixed gap", "4 pause", "5 interrupt", "6 jump"; "7 to 15" are reserved
+abbrev pub stop : ℕ
+stop = 0
+
+abbrev pub message : ℕ
+message = 1
+
+abbrev pub gap : ℕ
+gap = 2
+
+abbrev pub fixedGap : ℕ
+fixedGap = 3
+
+abbrev pub pause : ℕ
+pause = 4
+
+abbrev pub interrupt : ℕ
+interrupt = 5
+
+abbrev pub jump : ℕ
+jump = 6
+
+-- "schedule RAM, 256 words": the address of the last command
+abbrev pub last : ℕ
+last = 255
+
+-- "In a gap of 40 or more a waiting async word goes out: 4 null, the word (32), g - 36 null"
+abbrev pub asyncGap : ℕ
+asyncGap = 40
+
+abbrev pub asyncPart : ℕ
+asyncPart = 36

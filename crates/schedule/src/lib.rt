@@ -1,0 +1,211 @@
+// One command of a transmit schedule, by value: from where the schedule stands, the command and the message RAM's word to one output and
+// where the schedule then stands. Every function takes any number.
+use word::Gap;
+ghost use mathlib.Core.Path.{_≡_};
+ghost use Rattle.schedule.specs.Codes.{messageAddress};
+ghost use Rattle.schedule.specs.Output.{values};
+ghost use Rattle.schedule.specs.Schedule.{at, onward, asyncSent, gives, gapStep, reservedStep, jumpStep, commandStep, stepped};
+
+// The transmitter's states.
+pub const IDLE: u32 = 0;
+
+pub const RUNNING: u32 = 1;
+
+pub const PAUSED: u32 = 2;
+
+// The codes of the commands; those above `JUMP` are reserved.
+pub const STOP: u32 = 0;
+
+pub const MESSAGE: u32 = 1;
+
+pub const GAP: u32 = 2;
+
+pub const FIXED_GAP: u32 = 3;
+
+pub const PAUSE: u32 = 4;
+
+pub const INTERRUPT: u32 = 5;
+
+pub const JUMP: u32 = 6;
+
+// The address of the last command.
+pub const LAST: u32 = 255;
+
+// The shortest gap in which an async word goes out.
+pub const ASYNC_GAP: u32 = 40;
+
+// The part of such a gap up to the end of the word: the least gap and 32 bits.
+pub const ASYNC_PART: u32 = 36;
+
+// What one step gives: nothing; a word of the FIFO and the gap behind it; a message's word; a null time; a gap with an async word in it,
+// that is the least gap, the word and the rest of null time; the address of a reserved command.
+pub enum Output {
+    Quiet,
+    FifoWord(u32, u32),
+    Message(u32),
+    Null(u32),
+    Async(u32, u32),
+    Reserved(u32),
+}
+
+// Where a schedule stands: the transmitter's state, the address of the next command, whether an async word waits (0 or 1), and that word.
+pub struct Place {
+    pub state: u32,
+    pub address: u32,
+    pub waiting: u32,
+    pub word: u32,
+}
+
+// What a step gives and leaves; `signal` is 1 where the command signals condition 5, else 0.
+pub struct Outcome {
+    pub output: Output,
+    pub place: Place,
+    pub signal: u32,
+}
+
+// Where a command's word stands in the message RAM, bits 7 to 0.
+pub fn message_address(command: u32) -> u32
+    ensures { λ r. ⌜ r ≡ messageAddress command ⌝ }
+{
+    command % 256
+}
+
+// The output in four numbers: its form and what belongs to it.
+pub fn values(output: Output) -> [u32; 4]
+    ensures { λ r. ⌜ r ≡ values output ⌝ }
+{
+    match output {
+        Output::Quiet => [0, 0, 0, 0],
+        Output::FifoWord(word, gap) => [1, word, gap, 0],
+        Output::Message(word) => [2, word, 0, 0],
+        Output::Null(time) => [3, time, 0, 0],
+        Output::Async(word, rest) => [4, Gap::LEAST, word, rest],
+        Output::Reserved(address) => [5, address, 0, 0],
+    }
+}
+
+// The schedule in a state at a command; its async word stays.
+fn at(place: Place, state: u32, address: u32) -> Place
+    ensures { λ r. ⌜ r ≡ at place state address ⌝ }
+{
+    Place {
+        state,
+        address,
+        waiting: place.waiting,
+        word: place.word,
+    }
+}
+
+// On to the next command in the given state; after the last command idle at command 0.
+fn onward(place: Place, state: u32) -> Place
+    ensures { λ r. ⌜ r ≡ onward place state ⌝ }
+{
+    if LAST <= place.address {
+        return at(place, IDLE, 0);
+    }
+    at(place, state, place.address + 1)
+}
+
+// The same place with no async word waiting.
+fn async_sent(place: Place) -> Place
+    ensures { λ r. ⌜ r ≡ asyncSent place ⌝ }
+{
+    Place {
+        state: place.state,
+        address: place.address,
+        waiting: 0,
+        word: place.word,
+    }
+}
+
+// An outcome that signals nothing.
+fn gives(output: Output, place: Place) -> Outcome
+    ensures { λ r. ⌜ r ≡ gives output place ⌝ }
+{
+    Outcome {
+        output,
+        place,
+        signal: 0,
+    }
+}
+
+// A gap of `gap` bit times: a waiting async word goes out in one that is long enough.
+fn gap_step(place: Place, parity: u32, gap: u32) -> Outcome
+    ensures { λ r. ⌜ r ≡ gapStep place parity gap ⌝ }
+{
+    if place.waiting == 0 {
+        return gives(Output::Null(gap), onward(place, RUNNING));
+    }
+    if gap < ASYNC_GAP {
+        return gives(Output::Null(gap), onward(place, RUNNING));
+    }
+    let word = word::as_sent(parity, place.word);
+    gives(
+        Output::Async(word, gap - ASYNC_PART),
+        onward(async_sent(place), RUNNING),
+    )
+}
+
+// A reserved command: its own address is the answer.
+fn reserved_step(place: Place) -> Outcome
+    ensures { λ r. ⌜ r ≡ reservedStep place ⌝ }
+{
+    let after = at(place, IDLE, 0);
+    gives(Output::Reserved(place.address), after)
+}
+
+// A jump, also from the last command; one past the last command is reserved.
+fn jump_step(place: Place, target: u32) -> Outcome
+    ensures { λ r. ⌜ r ≡ jumpStep place target ⌝ }
+{
+    if LAST < target {
+        return reserved_step(place);
+    }
+    gives(Output::Quiet, at(place, RUNNING, target))
+}
+
+// One command of a running schedule.
+fn command_step(place: Place, parity: u32, command: u32, value: u32) -> Outcome
+    ensures { λ r. ⌜ r ≡ commandStep place parity command value ⌝ }
+{
+    let code = command / 4096 % 16;
+    if code == STOP {
+        return gives(Output::Quiet, at(place, IDLE, 0));
+    }
+    if code == MESSAGE {
+        return gives(
+            Output::Message(word::as_sent(parity, value)),
+            onward(place, RUNNING),
+        );
+    }
+    if code == GAP {
+        return gap_step(place, parity, Gap::clamp(value).time);
+    }
+    if code == FIXED_GAP {
+        return gives(Output::Null(Gap::clamp(value).time), onward(place, RUNNING));
+    }
+    if code == PAUSE {
+        return gives(Output::Quiet, onward(place, PAUSED));
+    }
+    if code == INTERRUPT {
+        return Outcome {
+            output: Output::Quiet,
+            place: onward(place, RUNNING),
+            signal: 1,
+        };
+    }
+    if code == JUMP {
+        return jump_step(place, command % 512);
+    }
+    reserved_step(place)
+}
+
+// One step: `command` is the schedule RAM's word at the place's address, `value` the message RAM's word at the command's `message_address`.
+pub fn step(place: Place, parity: u32, command: u32, value: u32) -> Outcome
+    ensures { λ r. ⌜ r ≡ stepped place parity command value ⌝ }
+{
+    if place.state == RUNNING {
+        return command_step(place, parity, command, value);
+    }
+    gives(Output::Quiet, place)
+}
