@@ -3,3 +3,4 @@ pub mod Sound
 pub mod Bits
 pub mod Filled
 pub mod Keeps
+pub mod Fifos

@@ -7,3 +7,4 @@ pub mod Matching
 pub mod Memories
 pub mod Status
 pub mod Tests
+pub mod Fifos

@@ -33,7 +33,7 @@ module _ (r : Ring) where
   -- ---- slots
 
   -- a slot stands inside the ring
-  inside : (k : ℕ) → 0 < r .slots → slot r k + r .width ≤ end r
+  pub inside : (k : ℕ) → 0 < r .slots → slot r k + r .width ≤ end r
   inside k h = omega (arith, mul-le-mul-left (r .width) (mod-lt k h))
 
   -- a word of one slot stands in no earlier slot
