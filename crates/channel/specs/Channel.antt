@@ -1,0 +1,56 @@
+-- A call on one channel: what it answers and what it leaves, with the rule (paper 01, "Faults and status").
+use Prim.Native.Nat.{ℕ, _+_, _*_}
+use mathlib.Core.List.{List}
+use Rattle.block.specs.Layout.{word, latch}
+use Rattle.block.specs.Status.{conditions, ruled, pending, faultWeight}
+use Rattle.channel.specs.Groups.{settingAnswer, settingAfter, memoryAnswer, memoryAfter, statusAnswer, statusAfter, testAfter, readAnswer}
+use Rattle.channel.specs.declared.calls.StatusCall.{StatusCall}
+use Rattle.channel.specs.declared.calls.StatusCall.the-variants.{ReadStatus, ClearLatch, WriteEnable, ReadEnable, WriteLevelMask, ReadLevelMask, ReadPending}
+use Rattle.channel.specs.declared.calls.ChannelCall.{ChannelCall}
+use Rattle.channel.specs.declared.calls.ChannelCall.the-variants.{Settings, Memories, Status, Tests, Reads}
+use Rattle.channel.specs.declared.calls.Given.{Given}
+use Rattle.channel.specs.declared.calls.Answer.{Answer}
+use Rattle.channel.specs.declared.calls.Answer.the-variants.{Done, Value}
+
+-- what an accepted call answers, and what it leaves, before the rule
+abbrev pub didAnswer : ChannelCall → List ℕ → Answer
+didAnswer (Settings k) b = settingAnswer k b
+didAnswer (Memories k) b = memoryAnswer k b
+didAnswer (Status k) b = statusAnswer k b
+didAnswer (Tests k) b = Done
+didAnswer (Reads k) b = readAnswer k b
+
+abbrev pub didLeave : ChannelCall → List ℕ → List ℕ
+didLeave (Settings k) b = settingAfter k b
+didLeave (Memories k) b = memoryAfter k b
+didLeave (Status k) b = statusAfter k b
+didLeave (Tests k) b = testAfter k b
+didLeave (Reads k) b = b
+
+-- the conditions that hold of a block, with the fault: 0 or 1
+abbrev pub holding : ℕ → List ℕ → ℕ
+holding fault b = conditions b + faultWeight * fault
+
+-- "After every accepted call on a channel": the rule, on what the call left
+abbrev pub blockAfter : Given → ChannelCall → List ℕ → List ℕ
+blockAfter g k b = ruled (holding (g .before) b) (holding (g .after) (didLeave k b)) (didLeave k b)
+
+-- "A status or pending read shows what the rule left after it"
+abbrev pub statusShown : StatusCall → List ℕ → Answer → Answer
+statusShown ReadStatus b a = Value (word b latch)
+statusShown (ClearLatch m) b a = a
+statusShown (WriteEnable m) b a = a
+statusShown ReadEnable b a = a
+statusShown (WriteLevelMask m) b a = a
+statusShown ReadLevelMask b a = a
+statusShown ReadPending b a = Value (pending b)
+
+abbrev pub shown : ChannelCall → List ℕ → Answer → Answer
+shown (Settings k) b a = a
+shown (Memories k) b a = a
+shown (Status k) b a = statusShown k b a
+shown (Tests k) b a = a
+shown (Reads k) b a = a
+
+abbrev pub blockAnswer : Given → ChannelCall → List ℕ → Answer
+blockAnswer g k b = shown k (blockAfter g k b) (didAnswer k b)

@@ -1,0 +1,90 @@
+-- What each accepted call on a channel answers and leaves, group by group, before the rule runs.
+use Prim.Native.Nat.{ℕ}
+use mathlib.Core.List.{List}
+use mathlib.Core.Bool.{Bool, true, false, cond}
+use lib.Dec.{eqb}
+use lib.ListN.{set}
+use Rattle.block.specs.Layout.{word, enable, levelMask, receiveLevel, transmitLevel, asyncMark, asyncWord, receiveAccepted, receiveRead, receiveCleared, receiveOverwritten, transmitAccepted, transmitSent, transmitCleared, messageRam, scheduleRam}
+use Rattle.block.specs.Settings.{written}
+use Rattle.block.specs.Matching.{matched, matchWritten}
+use Rattle.block.specs.Memories.{ramRead, ramWritten}
+use Rattle.block.specs.Status.{latchCleared}
+use Rattle.block.specs.Tests.{tested}
+use Rattle.channel.specs.Answers.{place}
+use Rattle.channel.specs.declared.calls.SettingCall.{SettingCall}
+use Rattle.channel.specs.declared.calls.SettingCall.the-variants.{WriteSetting, ReadSetting}
+use Rattle.channel.specs.declared.calls.MemoryCall.{MemoryCall}
+use Rattle.channel.specs.declared.calls.MemoryCall.the-variants.{WriteMatch, ReadMatch, WriteSchedule, ReadSchedule, WriteMessage, ReadMessage}
+use Rattle.channel.specs.declared.calls.StatusCall.{StatusCall}
+use Rattle.channel.specs.declared.calls.StatusCall.the-variants.{ReadStatus, ClearLatch, WriteEnable, ReadEnable, WriteLevelMask, ReadLevelMask, ReadPending}
+use Rattle.channel.specs.declared.calls.TestCall.{TestCall}
+use Rattle.channel.specs.declared.calls.TestCall.the-variants.{Sample, ResetTest, InitiateTest}
+use Rattle.channel.specs.declared.calls.ReadCall.{ReadCall}
+use Rattle.channel.specs.declared.calls.ReadCall.the-variants.{ReadCounts, ReadReceiveLevel, ReadTransmitLevel, ReadAsync}
+use Rattle.channel.specs.declared.calls.Answer.{Answer}
+use Rattle.channel.specs.declared.calls.Answer.the-variants.{Done, Value, Waiting, Fates}
+
+-- ---- settings: "Channel settings"
+
+abbrev pub settingAnswer : SettingCall → List ℕ → Answer
+settingAnswer (WriteSetting s v) b = Done
+settingAnswer (ReadSetting s) b = Value (word b (place s))
+
+abbrev pub settingAfter : SettingCall → List ℕ → List ℕ
+settingAfter (WriteSetting s v) b = written (place s) v b
+settingAfter (ReadSetting s) b = b
+
+-- ---- match set, schedule RAM and message RAM
+
+abbrev pub memoryAnswer : MemoryCall → List ℕ → Answer
+memoryAnswer (WriteMatch i v) b = Done
+memoryAnswer (ReadMatch i) b = Value (matched i b)
+memoryAnswer (WriteSchedule a v) b = Done
+memoryAnswer (ReadSchedule a) b = Value (ramRead scheduleRam a b)
+memoryAnswer (WriteMessage a v) b = Done
+memoryAnswer (ReadMessage a) b = Value (ramRead messageRam a b)
+
+abbrev pub memoryAfter : MemoryCall → List ℕ → List ℕ
+memoryAfter (WriteMatch i v) b = matchWritten i v b
+memoryAfter (ReadMatch i) b = b
+memoryAfter (WriteSchedule a v) b = ramWritten scheduleRam a v b
+memoryAfter (ReadSchedule a) b = b
+memoryAfter (WriteMessage a v) b = ramWritten messageRam a v b
+memoryAfter (ReadMessage a) b = b
+
+-- ---- masks. A status or pending read is answered from the block after the rule
+
+abbrev pub statusAnswer : StatusCall → List ℕ → Answer
+statusAnswer ReadStatus b = Done
+statusAnswer (ClearLatch m) b = Done
+statusAnswer (WriteEnable m) b = Done
+statusAnswer ReadEnable b = Value (word b enable)
+statusAnswer (WriteLevelMask m) b = Done
+statusAnswer ReadLevelMask b = Value (word b levelMask)
+statusAnswer ReadPending b = Done
+
+abbrev pub statusAfter : StatusCall → List ℕ → List ℕ
+statusAfter ReadStatus b = b
+statusAfter (ClearLatch m) b = latchCleared m b
+statusAfter (WriteEnable m) b = set b enable m
+statusAfter ReadEnable b = b
+statusAfter (WriteLevelMask m) b = set b levelMask m
+statusAfter ReadLevelMask b = b
+statusAfter ReadPending b = b
+
+-- ---- tests. A sample and a test reset change the module's counter alone
+
+abbrev pub testAfter : TestCall → List ℕ → List ℕ
+testAfter (Sample r) b = b
+testAfter ResetTest b = b
+testAfter (InitiateTest r) b = tested r b
+
+-- ---- counts, levels and the async word
+
+abbrev pub readAnswer : ReadCall → List ℕ → Answer
+readAnswer ReadCounts b =
+    Fates (word b receiveAccepted) (word b receiveRead) (word b receiveCleared) (word b receiveOverwritten)
+    (word b transmitAccepted) (word b transmitSent) (word b transmitCleared)
+readAnswer ReadReceiveLevel b = Value (word b receiveLevel)
+readAnswer ReadTransmitLevel b = Value (word b transmitLevel)
+readAnswer ReadAsync b = Waiting (word b asyncMark) (cond (eqb (word b asyncMark) 0) 0 (word b asyncWord))

@@ -1,0 +1,23 @@
+// Accepted calls on the settings.
+use crate::calls::Answer;
+use crate::calls::SettingCall;
+use crate::refusals::place;
+ghost use mathlib.Core.Path.{_≡_};
+ghost use Rattle.block.specs.Layout.{Whole};
+ghost use Rattle.channel.specs.Groups.{settingAnswer, settingAfter};
+
+pub fn on_setting(block: &mut [u32], call: SettingCall) -> Answer
+    requires { ⌜ Whole (now block) ⌝ }
+    ensures { λ r. ⌜ (r ≡ settingAnswer call (now (block .entry))) × (now (block .exit) ≡ settingAfter call (now (block .entry))) ⌝ }
+{
+    match call {
+        SettingCall::WriteSetting(setting, value) => {
+            block::settings::write(block, place(setting), value);
+            Answer::Done
+        }
+        SettingCall::ReadSetting(setting) => {
+            let at = place(setting);
+            Answer::Value(block[at])
+        }
+    }
+}
