@@ -8,4 +8,4 @@ returns : tie.Need-returns
 returns c = (cc, cc)
 
 pub on-block-spec : {M : Type 1} → statement M
-on-block-spec = tie.close (tie.spec (search needs) (search needs) (search needs) (search needs) (search needs) (λ c. search needs) returns)
+on-block-spec = tie.close (tie.spec (λ c κs. search needs) (λ c κs. search needs) (λ c κs. search needs) (λ c κs. search needs) (λ c κs. search needs) (λ c. search needs) returns)
