@@ -2,7 +2,7 @@
 use Prim.Native.Nat.{ℕ, _+_, _/_, _%_, _≤_}
 use mathlib.Core.List.{List}
 use mathlib.Core.Bool.{Bool, true, false, cond}
-use lib.Dec.{eqb, leb}
+use lib.Dec.{eqb, leb, ltb}
 use lib.ListN.{set}
 use Rattle.block.specs.Layout.{word, receiveLevel, receiveSize, almostFull, transmitLevel, almostEmpty, latch, enable, levelMask}
 
@@ -27,6 +27,10 @@ conditions b =
     + flag (eqb (word b receiveLevel) (word b receiveSize)) 2
     + flag (leb (word b transmitLevel) (word b almostEmpty)) 4
     + flag (eqb (word b transmitLevel) 0) 8
+
+-- "6 counter above threshold": 1 or 0 (004: "fault when the threshold is surpassed")
+abbrev pub faulty : ℕ → ℕ → ℕ
+faulty counter threshold = flag (ltb threshold counter) 1
 
 -- the bit of weight p of a mask
 abbrev pub bit : ℕ → ℕ → ℕ

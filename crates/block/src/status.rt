@@ -10,7 +10,7 @@ use crate::layout::TRANSMIT_LEVEL;
 ghost use mathlib.Core.Path.{_≡_};
 ghost use Prim.Native.Nat.{_≤_, _<_};
 ghost use Rattle.block.specs.Layout.{Whole};
-ghost use Rattle.block.specs.Status.{flag, conditions, latchBit, latched, ruled, keptBit, kept, latchCleared, commonBit, common, pending};
+ghost use Rattle.block.specs.Status.{flag, conditions, faulty, latchBit, latched, ruled, keptBit, kept, latchCleared, commonBit, common, pending};
 
 // The conditions that a call may signal, and the fault.
 pub const PARITY_ERROR: u32 = 16;
@@ -40,6 +40,13 @@ pub fn conditions(block: &[u32]) -> u32
         + flag(level == block[RECEIVE_SIZE], 2)
         + flag(sending <= block[ALMOST_EMPTY], 4)
         + flag(sending == 0, 8)
+}
+
+// Condition 6: whether a fault counter is above the threshold, 1 or 0.
+pub fn fault(counter: u32, threshold: u32) -> u32
+    ensures { λ r. ⌜ (r ≡ faulty counter threshold) × (r ≤ 1) ⌝ }
+{
+    flag(threshold < counter, 1)
 }
 
 // The latch bit of one condition after a call: its weight or 0.

@@ -6,7 +6,7 @@ use mathlib.Core.Bool.{Bool, true, false, cond}
 use native.Mathlib.Omega.{arith}
 use borrow.Author.Tests.{ltb-false, eqb-true, eqb-false}
 use lib.Dec.{ltb, eqb}
-use Rattle.channel.specs.Refusals.{above, first}
+use Rattle.channel.specs.Refusals.{above, below, first}
 
 none : (t : Bool) (k : ℕ) → cond t (suc k) 0 ≡ 0 → t ≡ false
 none true k e = absurd (omega arith)
@@ -16,6 +16,10 @@ none false k e = refl
 pub not-above : (limit x k : ℕ) → above limit x (suc k) ≡ 0 → x ≤ limit
 unfolding above
 not-above limit x k e = ltb-false limit x (none (ltb limit x) k e)
+
+pub not-below : (limit x k : ℕ) → below limit x (suc k) ≡ 0 → limit ≤ x
+unfolding below
+not-below limit x k e = ltb-false x limit (none (ltb x limit) k e)
 
 -- where the first that applies is none, neither applies
 pub neither : (a b : ℕ) → first a b ≡ 0 → (a ≡ 0) × (b ≡ 0)

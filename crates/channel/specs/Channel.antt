@@ -3,11 +3,11 @@ use Prim.Native.Nat.{ℕ, _+_, _*_}
 use mathlib.Core.List.{List}
 use Rattle.block.specs.Layout.{word, latch}
 use Rattle.block.specs.Status.{conditions, ruled, pending, faultWeight}
-use Rattle.channel.specs.Groups.{settingAnswer, settingAfter, memoryAnswer, memoryAfter, statusAnswer, statusAfter, testAfter, readAnswer}
+use Rattle.channel.specs.Groups.{settingAnswer, settingAfter, memoryAnswer, memoryAfter, statusAnswer, statusAfter, testAfter, countAnswer, receiveAnswer, receiveAfter, receiveSignal, transmitAnswer, transmitAfter, transmitSignal}
 use Rattle.channel.specs.declared.calls.StatusCall.{StatusCall}
 use Rattle.channel.specs.declared.calls.StatusCall.the-variants.{ReadStatus, ClearLatch, WriteEnable, ReadEnable, WriteLevelMask, ReadLevelMask, ReadPending}
 use Rattle.channel.specs.declared.calls.ChannelCall.{ChannelCall}
-use Rattle.channel.specs.declared.calls.ChannelCall.the-variants.{Settings, Memories, Status, Tests, Reads}
+use Rattle.channel.specs.declared.calls.ChannelCall.the-variants.{Settings, Memories, Status, Tests, Reads, Receive, Transmit}
 use Rattle.channel.specs.declared.calls.Given.{Given}
 use Rattle.channel.specs.declared.calls.Answer.{Answer}
 use Rattle.channel.specs.declared.calls.Answer.the-variants.{Done, Value}
@@ -18,14 +18,28 @@ didAnswer (Settings k) b = settingAnswer k b
 didAnswer (Memories k) b = memoryAnswer k b
 didAnswer (Status k) b = statusAnswer k b
 didAnswer (Tests k) b = Done
-didAnswer (Reads k) b = readAnswer k b
+didAnswer (Reads k) b = countAnswer k b
+didAnswer (Receive k) b = receiveAnswer k b
+didAnswer (Transmit k) b = transmitAnswer k b
 
-abbrev pub didLeave : ChannelCall → List ℕ → List ℕ
-didLeave (Settings k) b = settingAfter k b
-didLeave (Memories k) b = memoryAfter k b
-didLeave (Status k) b = statusAfter k b
-didLeave (Tests k) b = testAfter k b
-didLeave (Reads k) b = b
+abbrev pub didLeave : ℕ → ChannelCall → List ℕ → List ℕ
+didLeave stamp (Settings k) b = settingAfter k b
+didLeave stamp (Memories k) b = memoryAfter k b
+didLeave stamp (Status k) b = statusAfter k b
+didLeave stamp (Tests k) b = testAfter k b
+didLeave stamp (Reads k) b = b
+didLeave stamp (Receive k) b = receiveAfter stamp k b
+didLeave stamp (Transmit k) b = transmitAfter k b
+
+-- the conditions that it signals: "4 and 5 hold only during the call that signals them"
+abbrev pub didSignal : ChannelCall → List ℕ → ℕ
+didSignal (Settings k) b = 0
+didSignal (Memories k) b = 0
+didSignal (Status k) b = 0
+didSignal (Tests k) b = 0
+didSignal (Reads k) b = 0
+didSignal (Receive k) b = receiveSignal k b
+didSignal (Transmit k) b = transmitSignal k b
 
 -- the conditions that hold of a block, with the fault: 0 or 1
 abbrev pub holding : ℕ → List ℕ → ℕ
@@ -33,7 +47,7 @@ holding fault b = conditions b + faultWeight * fault
 
 -- "After every accepted call on a channel": the rule, on what the call left
 abbrev pub blockAfter : Given → ChannelCall → List ℕ → List ℕ
-blockAfter g k b = ruled (holding (g .before) b) (holding (g .after) (didLeave k b)) (didLeave k b)
+blockAfter g k b = ruled (holding (g .before) b) (holding (g .after) (didLeave (g .stamp) k b) + didSignal k b) (didLeave (g .stamp) k b)
 
 -- "A status or pending read shows what the rule left after it"
 abbrev pub statusShown : StatusCall → List ℕ → Answer → Answer
@@ -51,6 +65,8 @@ shown (Memories k) b a = a
 shown (Status k) b a = statusShown k b a
 shown (Tests k) b a = a
 shown (Reads k) b a = a
+shown (Receive k) b a = a
+shown (Transmit k) b a = a
 
 abbrev pub blockAnswer : Given → ChannelCall → List ℕ → Answer
 blockAnswer g k b = shown k (blockAfter g k b) (didAnswer k b)

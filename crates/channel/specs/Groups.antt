@@ -3,13 +3,20 @@ use Prim.Native.Nat.{ℕ}
 use mathlib.Core.List.{List}
 use mathlib.Core.Bool.{Bool, true, false, cond}
 use lib.Dec.{eqb}
-use lib.ListN.{set}
+use lib.ListN.{getD, set}
 use Rattle.block.specs.Layout.{word, enable, levelMask, receiveLevel, transmitLevel, asyncMark, asyncWord, receiveAccepted, receiveRead, receiveCleared, receiveOverwritten, transmitAccepted, transmitSent, transmitCleared, messageRam, scheduleRam}
 use Rattle.block.specs.Settings.{written}
 use Rattle.block.specs.Matching.{matched, matchWritten}
 use Rattle.block.specs.Memories.{ramRead, ramWritten}
 use Rattle.block.specs.Status.{latchCleared}
 use Rattle.block.specs.Tests.{tested}
+use Rattle.block.specs.Clearing.{stopped}
+use Rattle.receive.specs.Arrival.{arrival}
+use Rattle.receive.specs.Arrived.{arrived, arrivalSignal}
+use Rattle.receive.specs.Reading.{readAnswer, readAfter, mailboxAnswer, mailboxAfter}
+use Rattle.transmit.specs.Writes.{fifoWritten, asyncWritten}
+use Rattle.transmit.specs.States.{afterTrigger, afterPause}
+use Rattle.transmit.specs.Step.{stepOutput, stepSignal, stepAfter}
 use Rattle.channel.specs.Answers.{place}
 use Rattle.channel.specs.declared.calls.SettingCall.{SettingCall}
 use Rattle.channel.specs.declared.calls.SettingCall.the-variants.{WriteSetting, ReadSetting}
@@ -21,8 +28,12 @@ use Rattle.channel.specs.declared.calls.TestCall.{TestCall}
 use Rattle.channel.specs.declared.calls.TestCall.the-variants.{Sample, ResetTest, InitiateTest}
 use Rattle.channel.specs.declared.calls.ReadCall.{ReadCall}
 use Rattle.channel.specs.declared.calls.ReadCall.the-variants.{ReadCounts, ReadReceiveLevel, ReadTransmitLevel, ReadAsync}
+use Rattle.channel.specs.declared.calls.ReceiveCall.{ReceiveCall}
+use Rattle.channel.specs.declared.calls.ReceiveCall.the-variants.{Arrive, ReadFifo, ReadMailbox}
+use Rattle.channel.specs.declared.calls.TransmitCall.{TransmitCall}
+use Rattle.channel.specs.declared.calls.TransmitCall.the-variants.{WriteFifo, WriteAsync, Trigger, Pause, Stop, Step}
 use Rattle.channel.specs.declared.calls.Answer.{Answer}
-use Rattle.channel.specs.declared.calls.Answer.the-variants.{Done, Value, Waiting, Fates}
+use Rattle.channel.specs.declared.calls.Answer.the-variants.{Done, Value, Waiting, Fates, Arrived, Entry, Stepped}
 
 -- ---- settings: "Channel settings"
 
@@ -81,10 +92,57 @@ testAfter (InitiateTest r) b = tested r b
 
 -- ---- counts, levels and the async word
 
-abbrev pub readAnswer : ReadCall → List ℕ → Answer
-readAnswer ReadCounts b =
+abbrev pub countAnswer : ReadCall → List ℕ → Answer
+countAnswer ReadCounts b =
     Fates (word b receiveAccepted) (word b receiveRead) (word b receiveCleared) (word b receiveOverwritten)
     (word b transmitAccepted) (word b transmitSent) (word b transmitCleared)
-readAnswer ReadReceiveLevel b = Value (word b receiveLevel)
-readAnswer ReadTransmitLevel b = Value (word b transmitLevel)
-readAnswer ReadAsync b = Waiting (word b asyncMark) (cond (eqb (word b asyncMark) 0) 0 (word b asyncWord))
+countAnswer ReadReceiveLevel b = Value (word b receiveLevel)
+countAnswer ReadTransmitLevel b = Value (word b transmitLevel)
+countAnswer ReadAsync b = Waiting (word b asyncMark) (cond (eqb (word b asyncMark) 0) 0 (word b asyncWord))
+
+-- ---- arrivals and reads of what was received: "Receive"
+
+-- the answer that an entry's three words make
+abbrev pub entryAnswer : List ℕ → Answer
+entryAnswer e = Entry (getD e 0 0) (getD e 1 0) (getD e 2 0)
+
+abbrev pub receiveAnswer : ReceiveCall → List ℕ → Answer
+receiveAnswer (Arrive w) b = Arrived (arrival w b)
+receiveAnswer ReadFifo b = entryAnswer (readAnswer b)
+receiveAnswer (ReadMailbox i) b = entryAnswer (mailboxAnswer i b)
+
+abbrev pub receiveAfter : ℕ → ReceiveCall → List ℕ → List ℕ
+receiveAfter stamp (Arrive w) b = arrived stamp w b
+receiveAfter stamp ReadFifo b = readAfter b
+receiveAfter stamp (ReadMailbox i) b = mailboxAfter i b
+
+abbrev pub receiveSignal : ReceiveCall → List ℕ → ℕ
+receiveSignal (Arrive w) b = arrivalSignal w b
+receiveSignal ReadFifo b = 0
+receiveSignal (ReadMailbox i) b = 0
+
+-- ---- the transmitter: "Transmit"
+
+abbrev pub transmitAnswer : TransmitCall → List ℕ → Answer
+transmitAnswer (WriteFifo w) b = Done
+transmitAnswer (WriteAsync w) b = Done
+transmitAnswer Trigger b = Done
+transmitAnswer Pause b = Done
+transmitAnswer Stop b = Done
+transmitAnswer Step b = Stepped (stepOutput b)
+
+abbrev pub transmitAfter : TransmitCall → List ℕ → List ℕ
+transmitAfter (WriteFifo w) b = fifoWritten w b
+transmitAfter (WriteAsync w) b = asyncWritten w b
+transmitAfter Trigger b = afterTrigger b
+transmitAfter Pause b = afterPause b
+transmitAfter Stop b = stopped b
+transmitAfter Step b = stepAfter b
+
+abbrev pub transmitSignal : TransmitCall → List ℕ → ℕ
+transmitSignal (WriteFifo w) b = 0
+transmitSignal (WriteAsync w) b = 0
+transmitSignal Trigger b = 0
+transmitSignal Pause b = 0
+transmitSignal Stop b = 0
+transmitSignal Step b = stepSignal b

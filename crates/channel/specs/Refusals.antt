@@ -3,6 +3,7 @@ use Prim.Native.Nat.{ℕ}
 use mathlib.Core.List.{List}
 use mathlib.Core.Bool.{Bool, true, false, cond}
 use lib.Dec.{eqb, ltb}
+use Rattle.block.specs.Layout.{word, receiveLevel, transmitLevel, transmitMode, transmitter, asyncMark}
 use Rattle.block.specs.Settings.{settingRefusal}
 use Rattle.channel.specs.Answers.{place}
 use Rattle.channel.specs.declared.calls.SettingCall.{SettingCall}
@@ -13,8 +14,12 @@ use Rattle.channel.specs.declared.calls.StatusCall.{StatusCall}
 use Rattle.channel.specs.declared.calls.StatusCall.the-variants.{ReadStatus, ClearLatch, WriteEnable, ReadEnable, WriteLevelMask, ReadLevelMask, ReadPending}
 use Rattle.channel.specs.declared.calls.TestCall.{TestCall}
 use Rattle.channel.specs.declared.calls.TestCall.the-variants.{Sample, ResetTest, InitiateTest}
+use Rattle.channel.specs.declared.calls.ReceiveCall.{ReceiveCall}
+use Rattle.channel.specs.declared.calls.ReceiveCall.the-variants.{Arrive, ReadFifo, ReadMailbox}
+use Rattle.channel.specs.declared.calls.TransmitCall.{TransmitCall}
+use Rattle.channel.specs.declared.calls.TransmitCall.the-variants.{WriteFifo, WriteAsync, Trigger, Pause, Stop, Step}
 use Rattle.channel.specs.declared.calls.ChannelCall.{ChannelCall}
-use Rattle.channel.specs.declared.calls.ChannelCall.the-variants.{Settings, Memories, Status, Tests, Reads}
+use Rattle.channel.specs.declared.calls.ChannelCall.the-variants.{Settings, Memories, Status, Tests, Reads, Receive, Transmit}
 
 -- a number's refusal where it is above a limit, or below one; else 0
 unfoldable pub above : ℕ → ℕ → ℕ → ℕ
@@ -57,9 +62,27 @@ testCallRefusal (Sample r) = above 1 r 4
 testCallRefusal ResetTest = 0
 testCallRefusal (InitiateTest r) = above 1 r 4
 
+-- "receive FIFO read with none held": 7; a mailbox's "index 0 to 1023"
+abbrev pub receiveCallRefusal : ReceiveCall → List ℕ → ℕ
+receiveCallRefusal (Arrive w) b = 0
+receiveCallRefusal ReadFifo b = below 1 (word b receiveLevel) 7
+receiveCallRefusal (ReadMailbox i) b = above 1023 i 4
+
+-- "transmit FIFO written while it holds 255, or async written while an async word already waits": 6;
+-- "Async is refused with 5 outside scheduled mode"; a trigger is "refused with 5 if the transmitter is off"
+abbrev pub transmitCallRefusal : TransmitCall → List ℕ → ℕ
+transmitCallRefusal (WriteFifo w) b = above 254 (word b transmitLevel) 6
+transmitCallRefusal (WriteAsync w) b = first (below 2 (word b transmitMode) 5) (above 0 (word b asyncMark) 6)
+transmitCallRefusal Trigger b = below 1 (word b transmitter) 5
+transmitCallRefusal Pause b = 0
+transmitCallRefusal Stop b = 0
+transmitCallRefusal Step b = 0
+
 abbrev pub channelRefusal : ChannelCall → List ℕ → ℕ
 channelRefusal (Settings k) b = settingCallRefusal k b
 channelRefusal (Memories k) b = memoryCallRefusal k
 channelRefusal (Status k) b = statusCallRefusal k
 channelRefusal (Tests k) b = testCallRefusal k
 channelRefusal (Reads k) b = 0
+channelRefusal (Receive k) b = receiveCallRefusal k b
+channelRefusal (Transmit k) b = transmitCallRefusal k b

@@ -1,4 +1,6 @@
 // The calls on a channel and their answers, as values.
+use receive::Arrival;
+use schedule::Output;
 
 // The twelve settings, in the order of their numbers.
 pub enum Setting {
@@ -63,12 +65,31 @@ pub enum ReadCall {
     ReadAsync,
 }
 
+pub enum ReceiveCall {
+    // A word arrives.
+    Arrive(u32),
+    ReadFifo,
+    // An SDI/Label index.
+    ReadMailbox(u32),
+}
+
+pub enum TransmitCall {
+    WriteFifo(u32),
+    WriteAsync(u32),
+    Trigger,
+    Pause,
+    Stop,
+    Step,
+}
+
 pub enum ChannelCall {
     Settings(SettingCall),
     Memories(MemoryCall),
     Status(StatusCall),
     Tests(TestCall),
     Reads(ReadCall),
+    Receive(ReceiveCall),
+    Transmit(TransmitCall),
 }
 
 pub enum Answer {
@@ -80,6 +101,18 @@ pub enum Answer {
     Waiting(u32, u32),
     // Receive accepted, read, cleared, overwritten; transmit accepted, sent, cleared.
     Fates(u32, u32, u32, u32, u32, u32, u32),
+    // What became of an arrival.
+    Arrived(Arrival),
+    // Status, word and stamp.
+    Entry(u32, u32, u32),
+    // What a step gave.
+    Stepped(Output),
+}
+
+// What a call answers before the rule, and the conditions that it signals.
+pub struct Did {
+    pub answer: Answer,
+    pub signal: u32,
 }
 
 // What a call needs from the module part: the stamp, and whether the channel's fault counter is above the threshold, 0 or 1, before the

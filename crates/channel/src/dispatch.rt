@@ -1,33 +1,46 @@
 // A call on one channel: the dispatch, and the status rule in one place.
 use crate::calls::Answer;
 use crate::calls::ChannelCall;
+use crate::calls::Did;
 use crate::calls::Given;
 use crate::memories::on_memory;
 use crate::reads::on_read;
+use crate::receiving::on_receive;
 use crate::settings::on_setting;
 use crate::status::on_status;
 use crate::tests::on_test;
+use crate::transmitting::on_transmit;
 ghost use mathlib.Core.Path.{_≡_};
-ghost use Prim.Native.Nat.{_≤_, _<_};
+ghost use Prim.Native.Nat.{_+_, _≤_, _<_};
 ghost use Rattle.block.specs.Layout.{Whole};
 ghost use Rattle.block.specs.Ranges.{Usable};
 ghost use Rattle.channel.specs.Refusals.{channelRefusal};
-ghost use Rattle.channel.specs.Channel.{didAnswer, didLeave, holding, shown, blockAnswer, blockAfter};
+ghost use Rattle.channel.specs.Channel.{didAnswer, didLeave, didSignal, holding, shown, blockAnswer, blockAfter};
+ghost use Rattle.channel.specs.declared.calls.Did.{Did};
+
+// An answer that signals nothing.
+fn quiet(answer: Answer) -> Did
+    ensures { λ r. ⌜ (r .answer ≡ answer) × (r .signal ≡ 0) ⌝ }
+{
+    Did { answer, signal: 0 }
+}
 
 // Does an accepted call, without the rule.
-fn act(block: &mut [u32], call: ChannelCall) -> Answer
+fn act(block: &mut [u32], stamp: u32, call: ChannelCall) -> Did
     requires { ⌜ (Usable (now block)) × (channelRefusal call (now block) ≡ 0) ⌝ }
-    ensures { λ r. ⌜ (r ≡ didAnswer call (now (block .entry))) × (now (block .exit) ≡ didLeave call (now (block .entry))) ⌝ }
+    ensures { λ r. ⌜ (r .answer ≡ didAnswer call (now (block .entry))) × (r .signal ≡ didSignal call (now (block .entry))) × (now (block .exit) ≡ didLeave stamp call (now (block .entry))) ⌝ }
 {
     match call {
-        ChannelCall::Settings(k) => on_setting(block, k),
-        ChannelCall::Memories(k) => on_memory(block, k),
-        ChannelCall::Status(k) => on_status(block, k),
+        ChannelCall::Settings(k) => quiet(on_setting(block, k)),
+        ChannelCall::Memories(k) => quiet(on_memory(block, k)),
+        ChannelCall::Status(k) => quiet(on_status(block, k)),
         ChannelCall::Tests(k) => {
             on_test(block, k);
-            Answer::Done
+            quiet(Answer::Done)
         }
-        ChannelCall::Reads(k) => on_read(block, k),
+        ChannelCall::Reads(k) => quiet(on_read(block, k)),
+        ChannelCall::Receive(k) => on_receive(block, stamp, k),
+        ChannelCall::Transmit(k) => on_transmit(block, k),
     }
 }
 
@@ -50,6 +63,8 @@ fn show(block: &[u32], call: ChannelCall, answer: Answer) -> Answer
         ChannelCall::Memories(_) => answer,
         ChannelCall::Tests(_) => answer,
         ChannelCall::Reads(_) => answer,
+        ChannelCall::Receive(_) => answer,
+        ChannelCall::Transmit(_) => answer,
     }
 }
 
@@ -59,8 +74,9 @@ pub fn on_block(block: &mut [u32], given: Given, call: ChannelCall) -> Answer
     ensures { λ r. ⌜ (r ≡ blockAnswer given call (now (block .entry))) × (now (block .exit) ≡ blockAfter given call (now (block .entry))) ⌝ }
 {
     let before = holding(given.before, block);
-    let answer = act(block, call);
-    let holds = holding(given.after, block);
+    let did = act(block, given.stamp, call);
+    let answer = did.answer;
+    let holds = holding(given.after, block) + did.signal;
     block::status::rule(block, before, holds);
     show(block, call, answer)
 }

@@ -5,11 +5,11 @@ use block::layout::ASYNC_MARK;
 use block::layout::ASYNC_WORD;
 ghost use mathlib.Core.Path.{_≡_};
 ghost use Rattle.block.specs.Layout.{Whole};
-ghost use Rattle.channel.specs.Groups.{readAnswer};
+ghost use Rattle.channel.specs.Groups.{countAnswer};
 
 pub fn on_read(block: &[u32], call: ReadCall) -> Answer
     requires { ⌜ Whole (now block) ⌝ }
-    ensures { λ r. ⌜ r ≡ readAnswer call (now (block .entry)) ⌝ }
+    ensures { λ r. ⌜ r ≡ countAnswer call (now (block .entry)) ⌝ }
 {
     match call {
         ReadCall::ReadCounts => Answer::Fates(

@@ -1,22 +1,34 @@
-// When a call on a sound channel is refused, and by which number: 4 range, 5 mode, or 0 for none.
+// When a call on a sound channel is refused, and by which number: 4 range, 5 mode, 6 full, 7 empty, or 0 for none.
 use crate::calls::ChannelCall;
 use crate::calls::MemoryCall;
+use crate::calls::ReceiveCall;
 use crate::calls::Setting;
 use crate::calls::SettingCall;
 use crate::calls::StatusCall;
 use crate::calls::TestCall;
+use crate::calls::TransmitCall;
 ghost use mathlib.Core.Path.{_≡_};
 ghost use Prim.Native.Nat.{_<_};
 ghost use Rattle.block.specs.Layout.{Whole, settings};
 ghost use Rattle.block.specs.Ranges.{Usable};
 ghost use Rattle.channel.specs.Answers.{place};
-ghost use Rattle.channel.specs.Refusals.{above, first, settingCallRefusal, memoryCallRefusal, statusCallRefusal, testCallRefusal, channelRefusal};
+ghost use Rattle.channel.specs.Refusals.{above, below, first, settingCallRefusal, memoryCallRefusal, statusCallRefusal, testCallRefusal, receiveCallRefusal, transmitCallRefusal, channelRefusal};
 
 // The number where `x` is above the limit, else 0.
 fn above(limit: u32, x: u32, number: u32) -> u32
     ensures { λ r. ⌜ r ≡ above limit x number ⌝ }
 {
     if limit < x {
+        return number;
+    }
+    0
+}
+
+// The number where `x` is below the limit, else 0.
+fn below(limit: u32, x: u32, number: u32) -> u32
+    ensures { λ r. ⌜ r ≡ below limit x number ⌝ }
+{
+    if x < limit {
         return number;
     }
     0
@@ -103,6 +115,34 @@ fn test_refusal(call: TestCall) -> u32
     }
 }
 
+fn receive_refusal(block: &[u32], call: ReceiveCall) -> u32
+    requires { ⌜ Whole (now block) ⌝ }
+    ensures { λ r. ⌜ r ≡ receiveCallRefusal call (now (block .entry)) ⌝ }
+{
+    match call {
+        ReceiveCall::Arrive(_) => 0,
+        ReceiveCall::ReadFifo => below(1, block[block::layout::RECEIVE_LEVEL], 7),
+        ReceiveCall::ReadMailbox(index) => above(1023, index, 4),
+    }
+}
+
+fn transmit_refusal(block: &[u32], call: TransmitCall) -> u32
+    requires { ⌜ Whole (now block) ⌝ }
+    ensures { λ r. ⌜ r ≡ transmitCallRefusal call (now (block .entry)) ⌝ }
+{
+    match call {
+        TransmitCall::WriteFifo(_) => above(254, block[block::layout::TRANSMIT_LEVEL], 6),
+        TransmitCall::WriteAsync(_) => first(
+            below(2, block[block::layout::TRANSMIT_MODE], 5),
+            above(0, block[block::layout::ASYNC_MARK], 6),
+        ),
+        TransmitCall::Trigger => below(1, block[block::layout::TRANSMITTER], 5),
+        TransmitCall::Pause => 0,
+        TransmitCall::Stop => 0,
+        TransmitCall::Step => 0,
+    }
+}
+
 // The refusal of a call on a sound channel, or 0.
 pub fn refusal(block: &[u32], call: ChannelCall) -> u32
     requires { ⌜ Usable (now block) ⌝ }
@@ -114,5 +154,7 @@ pub fn refusal(block: &[u32], call: ChannelCall) -> u32
         ChannelCall::Status(k) => status_refusal(k),
         ChannelCall::Tests(k) => test_refusal(k),
         ChannelCall::Reads(_) => 0,
+        ChannelCall::Receive(k) => receive_refusal(block, k),
+        ChannelCall::Transmit(k) => transmit_refusal(block, k),
     }
 }

@@ -10,13 +10,13 @@ returns : tie.Need-returns
 returns c = rw (c .before .before .enum-told4 .given .1, eq-eqb _ 0 (c .if1 .taken)) refl
 
 returns-2 : tie.Need-returns-2
-returns-2 c = cc
+returns-2 c = rw (c .before .before .before .before .before .before .before .enum-told .given .1) refl
 
 returns-3 : tie.Need-returns-3
-returns-3 c = cc
+returns-3 c = rw (c .before .enum-told2 .given .1) refl
 
 returns-4 : tie.Need-returns-4
-returns-4 c = cc
+returns-4 c = rw (c .before .enum-told3 .given .1) refl
 
 returns-5 : tie.Need-returns-5
 returns-5 c = rw (c .before .before .before .enum-told4 .given .1, ne-eqb _ 0 (c .before .if1 .left)) refl

@@ -12,13 +12,13 @@ returns-3 : tie.Need-returns-3
 returns-3 c = (cc, cc)
 
 returns-4 : tie.Need-returns-4
-returns-4 c = (cc, cc)
+returns-4 c = rw (c .before .enum-told2 .given .1) (refl, refl)
 
 returns-5 : tie.Need-returns-5
 returns-5 c = (cc, cc)
 
 returns-6 : tie.Need-returns-6
-returns-6 c = (cc, cc)
+returns-6 c = rw (c .before .enum-told3 .given .1) (refl, refl)
 
 pub on-status-spec : {M : Type 1} → statement M
 on-status-spec =

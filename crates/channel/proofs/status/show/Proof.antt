@@ -1,3 +1,4 @@
+use mathlib.Core.Path.{refl}
 -- `channel::status::show` meets its contract: each call from what its callee ensures.
 -- Assumes nothing.
 use borrow.Author.Needs.{needs}
@@ -5,7 +6,7 @@ use Rattle.channel.proofs.status.show.Statement.{statement}
 use Rattle.channel.proofs.status.show.Tie as tie
 
 returns : tie.Need-returns
-returns c = cc
+returns c = rw (c .before .enum-told .given .1) refl
 
 returns-2 : tie.Need-returns-2
 returns-2 c = cc

@@ -1,0 +1,109 @@
+-- What a usable block's receive words are, what an arrival's decision tells, and what a mailbox store leaves.
+-- Assumes nothing.
+use mathlib.Core.Path.{_≡_, refl, ap}
+use mathlib.Core.Bool.{Bool, true, false, cond}
+use mathlib.Core.List.{List}
+use Prim.Native.Nat.{ℕ, _≤_, _<_}
+use native.Mathlib.Omega.{arith}
+use borrow.Author.Tests.{ltb-true, ltb-false}
+use lib.Dec.{eqb, ltb}
+use lib.ListN.{length}
+use lib.Seq.{sets}
+use Rattle.word.specs.Word.{index, inError}
+use Rattle.word.specs.Parity.{errorMark}
+use Rattle.ring.specs.Ring.{slots}
+use Rattle.ring.proofs.Words.{sets-other}
+use Rattle.block.specs.Layout.{word, receiver, fifoKind, receiveMode, receiveLevel, receivePosition, receiveSize, mailboxes, blockWords}
+use Rattle.block.specs.Ranges.{leasts, greatests, Usable}
+use Rattle.block.proofs.Sound.{at-least, at-most, level-in-size, usable-beyond}
+use Rattle.receive.specs.Arrival.{outcome, filtered, arrival}
+use Rattle.receive.specs.Entries.{mailboxAt, mailOf, mailed}
+use Rattle.receive.specs.declared.Arrival.{Arrival}
+use Rattle.receive.specs.declared.Arrival.the-variants.{Ignored, Filtered, Appended, Dropped, Overwriting}
+
+pub record Bounds (b : List ℕ) : Type 0 where
+  pub whole : length b ≡ blockWords
+  pub position : word b receivePosition < slots
+  pub level : word b receiveLevel ≤ word b receiveSize
+  pub some : 0 < word b receiveSize
+  pub size : word b receiveSize ≤ slots
+
+pub bounds : {b : List ℕ} → Usable b → Bounds b
+unfolding leasts greatests
+bounds u =
+    record {
+      whole = u .whole;
+      position = omega (arith, at-most u receivePosition (omega arith));
+      level = level-in-size u;
+      some = at-least u receiveSize (omega arith);
+      size = at-most u receiveSize (omega arith);
+    }
+
+pub mark-le : (parity w : ℕ) → errorMark parity w ≤ 1
+unfolding errorMark
+mark-le parity w = go (eqb parity 0) (inError w)
+  where
+    go : (s t : Bool) → cond s 0 (cond t 1 0) ≤ 1
+    go true t = omega arith
+    go false true = omega arith
+    go false false = omega arith
+
+-- ---- what a decision tells
+
+-- whether the FIFO has room, and no more
+record Told (room : Bool) (a : Arrival) : Type 0 where
+  appended : a ≡ Appended → room ≡ true
+  overwriting : a ≡ Overwriting → room ≡ false
+
+told : (w : ℕ) (b : List ℕ) → Told (ltb (word b receiveLevel) (word b receiveSize)) (arrival w b)
+unfolding arrival
+told w b = go (eqb (word b receiver) 0) (filtered w b) (ltb (word b receiveLevel) (word b receiveSize)) (eqb (word b fifoKind) 0)
+  where
+    not-this : {room : Bool} {a : Arrival} → outcome a ≤ 1 → Told room a
+    not-this h = record { appended = λ e. absurd (omega (arith, ap outcome e)); overwriting = λ e. absurd (omega (arith, ap outcome e)) }
+
+    go : (off out room bounded : Bool)
+        → Told room (cond off Ignored (cond out Filtered (cond room Appended (cond bounded Dropped Overwriting))))
+    go true out room bounded = not-this (omega arith)
+    go false true room bounded = not-this (omega arith)
+    go false false true bounded = record { appended = λ e. refl; overwriting = λ e. absurd (omega (arith, ap outcome e)) }
+    go false false false true = record { appended = λ e. absurd (omega (arith, ap outcome e)); overwriting = λ e. refl }
+    go false false false false = record { appended = λ e. absurd (omega (arith, ap outcome e)); overwriting = λ e. refl }
+
+pub room : (w : ℕ) (b : List ℕ) → arrival w b ≡ Appended → word b receiveLevel < word b receiveSize
+room w b e = ltb-true (word b receiveLevel) (word b receiveSize) (told w b .appended e)
+
+pub full : (w : ℕ) (b : List ℕ) → arrival w b ≡ Overwriting → word b receiveSize ≤ word b receiveLevel
+full w b e = ltb-false (word b receiveLevel) (word b receiveSize) (told w b .overwriting e)
+
+-- ---- the mailboxes stand behind the words with a range, the counts and both rings
+
+pub mail-keeps : {b : List ℕ} → Usable b → (stamp w : ℕ) → Usable (mailed stamp w b)
+unfolding mailed
+mail-keeps {b} u stamp w = go (eqb (word b receiveMode) 0) (mailOf stamp w b)
+  where
+    go : (t : Bool) (e : List ℕ) → Usable (cond t b (sets b (mailboxAt (index w)) e))
+    go true e = u
+    go false e = usable-beyond b (mailboxAt (index w)) e u (omega arith)
+
+pub mail-before : (stamp w : ℕ) (b : List ℕ) (i : ℕ) → i < mailboxes → word (mailed stamp w b) i ≡ word b i
+unfolding mailed
+mail-before stamp w b i h = go (eqb (word b receiveMode) 0) (mailOf stamp w b)
+  where
+    go : (t : Bool) (e : List ℕ) → word (cond t b (sets b (mailboxAt (index w)) e)) i ≡ word b i
+    go true e = refl
+    go false e = sets-other b (mailboxAt (index w)) e i (λ l u. omega arith)
+
+-- `m` is the block once the mailbox took the word, and `a` the decision
+pub mail-usable : (b m : List ℕ) (stamp w : ℕ) → Usable b → m ≡ mailed stamp w b → Usable m
+mail-usable b m stamp w u e = rw e (mail-keeps u stamp w)
+
+pub mail-room : (b m : List ℕ) (stamp w : ℕ) (a : Arrival) → Usable b → m ≡ mailed stamp w b → a ≡ arrival w b → a ≡ Appended
+    → word m receiveLevel < slots
+mail-room b m stamp w a u e d t =
+    let r : word b receiveLevel < word b receiveSize = room w b (cc) in
+    rw (e, mail-before stamp w b receiveLevel (omega arith)) (omega (arith, bounds u))
+
+-- a parity error's mark fits wherever the code computes with it
+pub mark-fits : (mark parity w : ℕ) → mark ≡ errorMark parity w → mark ≤ 1
+mark-fits mark parity w e = rw e (mark-le parity w)

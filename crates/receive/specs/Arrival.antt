@@ -1,0 +1,30 @@
+-- What becomes of an arriving word, from the block as it finds it (paper 01, "Receive").
+use Prim.Native.Nat.{ℕ}
+use mathlib.Core.List.{List}
+use mathlib.Core.Bool.{Bool, false, cond}
+use lib.Dec.{eqb, ltb}
+use Rattle.word.specs.Word.{index}
+use Rattle.block.specs.Layout.{word, receiver, matching, fifoKind, receiveLevel, receiveSize}
+use Rattle.block.specs.Matching.{matched}
+use Rattle.receive.specs.declared.Arrival.{Arrival}
+use Rattle.receive.specs.declared.Arrival.the-variants.{Ignored, Filtered, Appended, Dropped, Overwriting}
+
+-- "The answer, number 0, names which happened": by these numbers
+abbrev pub outcome : Arrival → ℕ
+outcome Ignored = 0
+outcome Filtered = 1
+outcome Appended = 2
+outcome Dropped = 3
+outcome Overwriting = 4
+
+-- "Match on and index not in the match set, filtered."
+unfoldable pub filtered : ℕ → List ℕ → Bool
+filtered w b = cond (eqb (word b matching) 0) false (eqb (matched (index w) b) 0)
+
+-- "receiver off, ignored"; filtered; "appended"; "Held at size: bounded drops the arrival, circular overwrites the oldest."
+unfoldable pub arrival : ℕ → List ℕ → Arrival
+arrival w b =
+    cond (eqb (word b receiver) 0) Ignored
+    (cond (filtered w b) Filtered
+    (cond (ltb (word b receiveLevel) (word b receiveSize)) Appended
+    (cond (eqb (word b fifoKind) 0) Dropped Overwriting)))

@@ -1,0 +1,36 @@
+-- What is stored of an arriving word: an entry of the receive FIFO, and in mailbox mode a mailbox (paper 01, "Receive").
+use Prim.Native.Nat.{ℕ, _+_, _*_}
+use mathlib.Core.List.{List, [], _∷_}
+use mathlib.Core.Bool.{cond}
+use lib.Dec.{eqb}
+use lib.Seq.{sets}
+use Rattle.word.specs.Word.{index}
+use Rattle.word.specs.Parity.{errorMark}
+use Rattle.block.specs.Layout.{word, parity, stamps, receiveMode, mailboxes}
+
+-- "stamp (0 with stamps off)"
+unfoldable pub stampOf : ℕ → ℕ → ℕ
+stampOf stamps stamp = cond (eqb stamps 0) 0 stamp
+
+-- "in FIFO mode an entry of status (1 for a parity error, else 0), word and stamp"; in mailbox mode "the index .. as entry (0, index, 0)"
+unfoldable pub entryOf : ℕ → ℕ → List ℕ → List ℕ
+entryOf stamp w b =
+    cond (eqb (word b receiveMode) 0)
+    (errorMark (word b parity) w ∷ w ∷ stampOf (word b stamps) stamp ∷ [])
+    (0 ∷ index w ∷ 0 ∷ [])
+
+-- the first word of the mailbox of an index
+abbrev pub mailboxAt : ℕ → ℕ
+mailboxAt index = mailboxes + 3 * index
+
+-- "D1 new"
+abbrev pub newMark : ℕ
+newMark = 2
+
+-- "status (D0 parity error, D1 new), word and stamp"
+abbrev pub mailOf : ℕ → ℕ → List ℕ → List ℕ
+mailOf stamp w b = (errorMark (word b parity) w + newMark) ∷ w ∷ stampOf (word b stamps) stamp ∷ []
+
+-- "In mailbox mode the mailbox of that index takes" these, "always"
+unfoldable pub mailed : ℕ → ℕ → List ℕ → List ℕ
+mailed stamp w b = cond (eqb (word b receiveMode) 0) b (sets b (mailboxAt (index w)) (mailOf stamp w b))

@@ -1,0 +1,5 @@
+pub mod Arrival
+pub mod Entries
+pub mod Arrived
+pub mod Reading
+pub mod Fates

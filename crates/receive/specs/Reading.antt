@@ -1,0 +1,28 @@
+-- Reading the receive FIFO and a mailbox (paper 01, "Receive").
+use Prim.Native.Nat.{ℕ, _%_}
+use mathlib.Core.List.{List, [], _∷_}
+use lib.ListN.{set}
+use Rattle.ring.specs.Ring.{words}
+use Rattle.block.specs.Layout.{word}
+use Rattle.block.specs.Fifos.{receivePlaces, oldestEntry, entryTaken}
+use Rattle.receive.specs.Entries.{mailboxAt}
+
+-- "of a stored status the two low bits count"
+abbrev pub shown : List ℕ → List ℕ
+shown [] = []
+shown (status ∷ e) = status % 4 ∷ e
+
+-- "Reading the FIFO returns the oldest entry."
+abbrev pub readAnswer : List ℕ → List ℕ
+readAnswer b = shown (oldestEntry receivePlaces b)
+
+abbrev pub readAfter : List ℕ → List ℕ
+readAfter b = entryTaken receivePlaces b
+
+-- "Reading a mailbox (index 0 to 1023, any mode) returns it"
+abbrev pub mailboxAnswer : ℕ → List ℕ → List ℕ
+mailboxAnswer index b = shown (words b (mailboxAt index) 3)
+
+-- "and clears D1 (of the stored status only D0 stays)"
+abbrev pub mailboxAfter : ℕ → List ℕ → List ℕ
+mailboxAfter index b = set b (mailboxAt index) (word b (mailboxAt index) % 2)

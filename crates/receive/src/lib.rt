@@ -1,0 +1,249 @@
+// The receive side of a channel's block: what becomes of an arriving word, and the reads of the receive FIFO and of a mailbox.
+use block::layout::FIFO_KIND;
+use block::layout::MAILBOXES;
+use block::layout::MATCH;
+use block::layout::PARITY;
+use block::layout::RECEIVE_ACCEPTED;
+use block::layout::RECEIVE_LEVEL;
+use block::layout::RECEIVE_MODE;
+use block::layout::RECEIVE_OVERWRITTEN;
+use block::layout::RECEIVE_POSITION;
+use block::layout::RECEIVE_READ;
+use block::layout::RECEIVE_RING;
+use block::layout::RECEIVE_SIZE;
+use block::layout::RECEIVER;
+use block::layout::STAMPS;
+use block::status::PARITY_ERROR;
+use ring::Entry;
+ghost use mathlib.Core.Path.{_≡_};
+ghost use Prim.Native.Nat.{_<_};
+ghost use Rattle.ring.specs.Ring.{slots};
+ghost use Rattle.ring.specs.Entry.{fields};
+ghost use Rattle.block.specs.Layout.{word, receiveLevel};
+ghost use Rattle.block.specs.Ranges.{Usable};
+ghost use Rattle.block.specs.Fifos.{receivePlaces, entryAppended};
+ghost use Rattle.receive.specs.Arrival.{filtered, arrival};
+ghost use Rattle.receive.specs.Entries.{stampOf, entryOf, mailed};
+ghost use Rattle.receive.specs.Arrived.{overwriting, stored, arrived, signalled, arrivalSignal};
+ghost use Rattle.receive.specs.Reading.{shown, readAnswer, readAfter, mailboxAnswer, mailboxAfter};
+
+// What became of an arriving word: ignored with the receiver off; not in the match set; appended; dropped by a full bounded FIFO; appended
+// over the oldest of a full circular FIFO.
+pub enum Arrival {
+    Ignored,
+    Filtered,
+    Appended,
+    Dropped,
+    Overwriting,
+}
+
+// The answer to an arrival: what became of it, and the mask of the conditions that it signals.
+pub struct Arrived {
+    pub arrival: Arrival,
+    pub signal: u32,
+}
+
+// Whether the match set filters a word out.
+fn is_filtered(block: &[u32], word: u32) -> bool
+    requires { ⌜ Usable (now block) ⌝ }
+    ensures { λ r. ⌜ r ≡ filtered word (now (block .entry)) ⌝ }
+{
+    if block[MATCH] == 0 {
+        return false;
+    }
+    block::matching::read(block, word::index(word)) == 0
+}
+
+// What becomes of a word, decided before anything is stored.
+fn decide(block: &[u32], word: u32) -> Arrival
+    requires { ⌜ Usable (now block) ⌝ }
+    ensures { λ r. ⌜ r ≡ arrival word (now (block .entry)) ⌝ }
+{
+    if block[RECEIVER] == 0 {
+        return Arrival::Ignored;
+    }
+    if is_filtered(block, word) {
+        return Arrival::Filtered;
+    }
+    if block[RECEIVE_LEVEL] < block[RECEIVE_SIZE] {
+        return Arrival::Appended;
+    }
+    if block[FIFO_KIND] == 0 {
+        return Arrival::Dropped;
+    }
+    Arrival::Overwriting
+}
+
+// The stamp that is stored, by the channel's stamps setting.
+fn stamp_of(stamps: u32, stamp: u32) -> u32
+    ensures { λ r. ⌜ r ≡ stampOf stamps stamp ⌝ }
+{
+    if stamps == 0 {
+        return 0;
+    }
+    stamp
+}
+
+// The entry of a word: in mailbox mode the receive FIFO is a list of indices.
+fn entry_of(block: &[u32], stamp: u32, word: u32) -> Entry
+    requires { ⌜ Usable (now block) ⌝ }
+    ensures { λ r. ⌜ fields r ≡ entryOf stamp word (now (block .entry)) ⌝ }
+{
+    if block[RECEIVE_MODE] == 0 {
+        return Entry {
+            status: word::error_mark(block[PARITY], word),
+            word,
+            stamp: stamp_of(block[STAMPS], stamp),
+        };
+    }
+    Entry {
+        status: 0,
+        word: word::index(word),
+        stamp: 0,
+    }
+}
+
+// In mailbox mode the mailbox of the word's index takes it, marked as new.
+fn mail(block: &mut [u32], stamp: u32, word: u32)
+    requires { ⌜ Usable (now block) ⌝ }
+    ensures { λ r. ⌜ now (block .exit) ≡ mailed stamp word (now (block .entry)) ⌝ }
+{
+    if block[RECEIVE_MODE] == 0 {
+        return;
+    }
+    let error = word::error_mark(block[PARITY], word);
+    let kept = stamp_of(block[STAMPS], stamp);
+    let at = MAILBOXES + 3 * (word::index(word) as usize);
+    block[at] = error + 2;
+    block[at + 1] = word;
+    block[at + 2] = kept;
+}
+
+// Accepts an entry behind those held.
+fn append(block: &mut [u32], entry: Entry)
+    requires { ⌜ (Usable (now block)) × (word (now block) receiveLevel < slots) ⌝ }
+    ensures { λ r. ⌜ now (block .exit) ≡ entryAppended receivePlaces (now (block .entry)) (fields entry) ⌝ }
+{
+    let position = block[RECEIVE_POSITION];
+    let level = block[RECEIVE_LEVEL];
+    let accepted = block[RECEIVE_ACCEPTED];
+    ring::append3(block, RECEIVE_RING, position, level, entry);
+    block[RECEIVE_LEVEL] = level + 1;
+    block[RECEIVE_ACCEPTED] = std::num::wrapping_add_u32(accepted, 1);
+}
+
+// Accepts an entry over the oldest, and counts that one as overwritten.
+fn overwrite(block: &mut [u32], entry: Entry)
+    requires { ⌜ Usable (now block) ⌝ }
+    ensures { λ r. ⌜ now (block .exit) ≡ overwriting (now (block .entry)) (fields entry) ⌝ }
+{
+    let position = block[RECEIVE_POSITION];
+    let level = block[RECEIVE_LEVEL];
+    let accepted = block[RECEIVE_ACCEPTED];
+    let overwritten = block[RECEIVE_OVERWRITTEN];
+    ring::append3(block, RECEIVE_RING, position, level, entry);
+    block[RECEIVE_POSITION] = ring::next(position);
+    block[RECEIVE_ACCEPTED] = std::num::wrapping_add_u32(accepted, 1);
+    block[RECEIVE_OVERWRITTEN] = std::num::wrapping_add_u32(overwritten, 1);
+}
+
+// Stores what the decision asks for.
+fn store(block: &mut [u32], decision: Arrival, stamp: u32, word: u32)
+    requires { ⌜ (Usable (now block)) × (decision ≡ arrival word (now block)) ⌝ }
+    ensures { λ r. ⌜ now (block .exit) ≡ stored decision stamp word (now (block .entry)) ⌝ }
+{
+    let entry = entry_of(block, stamp, word);
+    match decision {
+        Arrival::Ignored => {}
+        Arrival::Filtered => {}
+        Arrival::Appended => {
+            mail(block, stamp, word);
+            append(block, entry);
+        }
+        Arrival::Dropped => mail(block, stamp, word),
+        Arrival::Overwriting => {
+            mail(block, stamp, word);
+            overwrite(block, entry);
+        }
+    }
+}
+
+// The conditions that an arrival signals: a parity error of a word that entered the FIFO or a mailbox.
+fn signal_of(block: &[u32], decision: Arrival, word: u32) -> u32
+    requires { ⌜ Usable (now block) ⌝ }
+    ensures { λ r. ⌜ r ≡ signalled decision word (now (block .entry)) ⌝ }
+{
+    let signal = word::error_mark(block[PARITY], word) * PARITY_ERROR;
+    match decision {
+        Arrival::Ignored => 0,
+        Arrival::Filtered => 0,
+        Arrival::Appended => signal,
+        Arrival::Dropped => {
+            if block[RECEIVE_MODE] == 0 {
+                return 0;
+            }
+            signal
+        }
+        Arrival::Overwriting => signal,
+    }
+}
+
+// A word arrives.
+pub fn arrive(block: &mut [u32], stamp: u32, word: u32) -> Arrived
+    requires { ⌜ Usable (now block) ⌝ }
+    ensures { λ r. ⌜ (r .arrival ≡ arrival word (now (block .entry)))
+        × (r .signal ≡ arrivalSignal word (now (block .entry)))
+        × (now (block .exit) ≡ arrived stamp word (now (block .entry))) ⌝ }
+{
+    let decision = decide(block, word);
+    let signal = signal_of(block, decision, word);
+    store(block, decision, stamp, word);
+    Arrived {
+        arrival: decision,
+        signal,
+    }
+}
+
+// An entry as a read shows it: of its status the two low bits count.
+fn shown(entry: Entry) -> Entry
+    ensures { λ r. ⌜ fields r ≡ shown (fields entry) ⌝ }
+{
+    Entry {
+        status: entry.status % 4,
+        word: entry.word,
+        stamp: entry.stamp,
+    }
+}
+
+// Takes the oldest entry out of the receive FIFO.
+pub fn read_fifo(block: &mut [u32]) -> Entry
+    requires { ⌜ (Usable (now block)) × (0 < word (now block) receiveLevel) ⌝ }
+    ensures { λ r. ⌜ (fields r ≡ readAnswer (now (block .entry)))
+        × (now (block .exit) ≡ readAfter (now (block .entry))) ⌝ }
+{
+    let position = block[RECEIVE_POSITION];
+    let level = block[RECEIVE_LEVEL];
+    let count = block[RECEIVE_READ];
+    let oldest = ring::oldest3(block, RECEIVE_RING, position);
+    block[RECEIVE_LEVEL] = level - 1;
+    block[RECEIVE_POSITION] = ring::next(position);
+    block[RECEIVE_READ] = std::num::wrapping_add_u32(count, 1);
+    shown(oldest)
+}
+
+// Reads a mailbox, which is then no longer new.
+pub fn read_mailbox(block: &mut [u32], index: u32) -> Entry
+    requires { ⌜ (Usable (now block)) × (index < 1024) ⌝ }
+    ensures { λ r. ⌜ (fields r ≡ mailboxAnswer index (now (block .entry)))
+        × (now (block .exit) ≡ mailboxAfter index (now (block .entry))) ⌝ }
+{
+    let at = MAILBOXES + 3 * (index as usize);
+    let status = block[at];
+    let entry = Entry {
+        status,
+        word: block[at + 1],
+        stamp: block[at + 2],
+    };
+    block[at] = status % 2;
+    shown(entry)
+}

@@ -1,0 +1,28 @@
+-- The transmitter's states and its modes (paper 01, "Transmit" and "Channel settings").
+use Prim.Native.Nat.{ℕ}
+use mathlib.Core.List.{List}
+use mathlib.Core.Bool.{cond}
+use lib.Dec.{eqb}
+use lib.ListN.{set}
+use Rattle.block.specs.Layout.{word, state, transmitMode}
+use Rattle.schedule.specs.Codes.{idle, running, paused}
+
+-- "transmit mode immediate, triggered or scheduled"
+abbrev pub immediate : ℕ
+immediate = 0
+
+abbrev pub triggered : ℕ
+triggered = 1
+
+abbrev pub scheduled : ℕ
+scheduled = 2
+
+-- "Trigger: idle or paused to running"; a running one runs on
+abbrev pub afterTrigger : List ℕ → List ℕ
+afterTrigger b = set b state running
+
+-- "Pause: running to paused; house: in immediate mode idle to paused too"; "In other states these do nothing."
+unfoldable pub afterPause : List ℕ → List ℕ
+afterPause b =
+    cond (eqb (word b state) running) (set b state paused)
+    (cond (eqb (word b transmitMode) immediate) (cond (eqb (word b state) idle) (set b state paused) b) b)

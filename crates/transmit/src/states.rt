@@ -1,0 +1,42 @@
+// The transmitter's modes, and the calls that change its state.
+use block::clearing::IDLE;
+use block::clearing::PAUSED;
+use block::clearing::RUNNING;
+use block::layout::STATE;
+use block::layout::TRANSMIT_MODE;
+ghost use mathlib.Core.Path.{_≡_};
+ghost use Rattle.block.specs.Ranges.{Usable};
+ghost use Rattle.transmit.specs.States.{afterTrigger, afterPause};
+
+// The transmit modes.
+pub const IMMEDIATE: u32 = 0;
+
+pub const TRIGGERED: u32 = 1;
+
+pub const SCHEDULED: u32 = 2;
+
+// Sets the transmitter running. The caller has tested that it is on.
+pub fn trigger(block: &mut [u32])
+    requires { ⌜ Usable (now block) ⌝ }
+    ensures { λ r. ⌜ now (block .exit) ≡ afterTrigger (now (block .entry)) ⌝ }
+{
+    block[STATE] = RUNNING;
+}
+
+// Pauses a running transmitter; in immediate mode an idle one too.
+pub fn pause(block: &mut [u32])
+    requires { ⌜ Usable (now block) ⌝ }
+    ensures { λ r. ⌜ now (block .exit) ≡ afterPause (now (block .entry)) ⌝ }
+{
+    if block[STATE] == RUNNING {
+        block[STATE] = PAUSED;
+        return;
+    }
+    if block[TRANSMIT_MODE] == IMMEDIATE {
+        if block[STATE] == IDLE {
+            block[STATE] = PAUSED;
+            return;
+        }
+        return;
+    }
+}
