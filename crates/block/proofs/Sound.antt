@@ -13,37 +13,9 @@ use lib.Dec.{leb}
 use lib.ListN.{getD, length, set, length-set}
 use lib.Seq.{sets, getD-set-same, getD-set-other}
 use Rattle.block.specs.Layout.{word, ranged, receiveLevel, receiveSize, Whole}
-use Rattle.block.specs.Ranges.{leasts, greatests, both, inRange, inRanges, sound, Usable}
+use Rattle.block.specs.Ranges.{leasts, greatests, both, within, allWithin, inRange, sound, Usable}
 
--- one word outside its range leaves the words not all in range
-pub outside : (b : List ℕ) (i n : ℕ) → i < n → inRange i (word b i) ≡ false → inRanges b n ≡ false
-unfolding inRanges
-outside b i zero h e = absurd (omega arith)
-outside b i (suc n) h e = go (outside b i n) (decLt i n)
-  where
-    never : (t : Bool) → both t false ≡ false
-    never true = refl
-    never false = refl
-
-    go : (i < n → inRange i (word b i) ≡ false → inRanges b n ≡ false) → Dec (i < n) → both (inRanges b n) (inRange n (word b n)) ≡ false
-    go below (yes l) = ap (λ (t : Bool). both t (inRange n (word b n))) (below l e)
-    go below (no l) = let q : i ≡ n = omega arith in ap (λ (t : Bool). both (inRanges b n) t) (rw q at e) ∙ never (inRanges b n)
-
-pub outside-unsound : (b : List ℕ) (i : ℕ) → i < ranged → inRange i (word b i) ≡ false → sound b ≡ false
-unfolding sound
-outside-unsound b i h e = ap (λ (t : Bool). both t (leb (word b receiveLevel) (word b receiveSize))) (outside b i ranged h e)
-
--- the next word in range too
-pub one-more : (b : List ℕ) (n : ℕ) → inRanges b n ≡ true → inRange n (word b n) ≡ true → inRanges b (suc n) ≡ true
-unfolding inRanges
-one-more b n p q = ap (λ (t : Bool). both t (inRange n (word b n))) p ∙ q
-
--- with every word in range, the receive level decides
-pub all-in : (b : List ℕ) (n : ℕ) → n ≡ ranged → inRanges b n ≡ true → sound b ≡ leb (word b receiveLevel) (word b receiveSize)
-unfolding sound
-all-in b n e p = ap (λ (t : Bool). both t (leb (word b receiveLevel) (word b receiveSize))) (rw e at p)
-
--- ---- a sound block, word by word
+-- ---- words within two tables, one by one
 
 both-left : (a b : Bool) → both a b ≡ true → a ≡ true
 both-left true b e = refl
@@ -53,48 +25,92 @@ both-right : (a b : Bool) → both a b ≡ true → b ≡ true
 both-right true b e = e
 both-right false b e = absurd (let z : _≡_ {A = ℕ} 0 1 = cc in omega arith)
 
-in-each : (b : List ℕ) (n i : ℕ) → inRanges b n ≡ true → i < n → inRange i (word b i) ≡ true
-unfolding inRanges
-in-each b zero i e h = absurd (omega arith)
-in-each b (suc n) i e h = go (in-each b n i (both-left _ _ e)) (decLt i n)
-  where
-    go : (i < n → inRange i (word b i) ≡ true) → Dec (i < n) → inRange i (word b i) ≡ true
-    go below (yes l) = below l
-    go below (no l) = let q : n ≡ i = omega arith in rw q at (both-right (inRanges b n) _ e)
+module _ (lo hi b : List ℕ) where
+  -- one word outside its range leaves the words not all in range
+  pub outside : (i n : ℕ) → i < n → within lo hi i (word b i) ≡ false → allWithin lo hi b n ≡ false
+  unfolding allWithin
+  outside i zero h e = absurd (omega arith)
+  outside i (suc n) h e = go (outside i n) (decLt i n)
+    where
+      never : (t : Bool) → both t false ≡ false
+      never true = refl
+      never false = refl
 
-each-in : (b : List ℕ) (n : ℕ) → ((i : ℕ) → i < n → inRange i (word b i) ≡ true) → inRanges b n ≡ true
-unfolding inRanges
-each-in b zero h = refl
-each-in b (suc n) h = ap₂ both (each-in b n (λ i l. h i (omega arith))) (h n (omega arith))
+      go : (i < n → within lo hi i (word b i) ≡ false → allWithin lo hi b n ≡ false) → Dec (i < n)
+          → both (allWithin lo hi b n) (within lo hi n (word b n)) ≡ false
+      go below (yes l) = ap (λ (t : Bool). both t (within lo hi n (word b n))) (below l e)
+      go below (no l) = let q : i ≡ n = omega arith in ap (λ (t : Bool). both (allWithin lo hi b n) t) (rw q at e) ∙ never (allWithin lo hi b n)
+
+  -- the next word in range too
+  pub one-more : (n : ℕ) → allWithin lo hi b n ≡ true → within lo hi n (word b n) ≡ true → allWithin lo hi b (suc n) ≡ true
+  unfolding allWithin
+  one-more n p q = ap (λ (t : Bool). both t (within lo hi n (word b n))) p ∙ q
+
+  pub in-each : (n i : ℕ) → allWithin lo hi b n ≡ true → i < n → within lo hi i (word b i) ≡ true
+  unfolding allWithin
+  in-each zero i e h = absurd (omega arith)
+  in-each (suc n) i e h = go (in-each n i (both-left _ _ e)) (decLt i n)
+    where
+      go : (i < n → within lo hi i (word b i) ≡ true) → Dec (i < n) → within lo hi i (word b i) ≡ true
+      go below (yes l) = below l
+      go below (no l) = let q : n ≡ i = omega arith in rw q at (both-right (allWithin lo hi b n) _ e)
+
+  pub each-in : (n : ℕ) → ((i : ℕ) → i < n → within lo hi i (word b i) ≡ true) → allWithin lo hi b n ≡ true
+  unfolding allWithin
+  each-in zero h = refl
+  each-in (suc n) h = ap₂ both (each-in n (λ i l. h i (omega arith))) (h n (omega arith))
+
+-- a number between the least and the greatest is within the tables, and the other way round
+pub is-within : (lo hi : List ℕ) (i v : ℕ) → getD lo i 0 ≤ v → v ≤ getD hi i 0 → within lo hi i v ≡ true
+is-within lo hi i v l u = ap₂ both (le-leb (getD lo i 0) v l) (le-leb v (getD hi i 0) u)
+
+pub no-less : (lo hi : List ℕ) (i v : ℕ) → within lo hi i v ≡ true → getD lo i 0 ≤ v
+no-less lo hi i v e = leb-true (getD lo i 0) v (both-left _ _ e)
+
+pub no-more : (lo hi : List ℕ) (i v : ℕ) → within lo hi i v ≡ true → v ≤ getD hi i 0
+no-more lo hi i v e = leb-true v (getD hi i 0) (both-right (leb (getD lo i 0) v) _ e)
+
+-- ---- a sound block
+
+pub outside-unsound : (b : List ℕ) (i : ℕ) → i < ranged → inRange i (word b i) ≡ false → sound b ≡ false
+unfolding sound
+outside-unsound b i h e = ap (λ (t : Bool). both t (leb (word b receiveLevel) (word b receiveSize))) (outside leasts greatests b i ranged h e)
+
+-- with every word in range, the receive level decides
+pub all-in : (b : List ℕ) (n : ℕ) → n ≡ ranged → allWithin leasts greatests b n ≡ true → sound b ≡ leb (word b receiveLevel) (word b receiveSize)
+unfolding sound
+all-in b n e p = ap (λ (t : Bool). both t (leb (word b receiveLevel) (word b receiveSize))) (rw e at p)
+
+-- ---- a sound block, word by word
 
 -- a number between the least and the greatest is in range
 pub in-range : (i v : ℕ) → getD leasts i 0 ≤ v → v ≤ getD greatests i 0 → inRange i v ≡ true
-in-range i v l u = ap₂ both (le-leb (getD leasts i 0) v l) (le-leb v (getD greatests i 0) u)
+in-range i v l u = is-within leasts greatests i v l u
 
 -- a block whose words are in their ranges, one by one, is usable
 pub usable-words : {b : List ℕ} → Whole b → ((i : ℕ) → i < ranged → inRange i (word b i) ≡ true) → word b receiveLevel ≤ word b receiveSize → Usable b
 unfolding sound
-usable-words {b} w h l = record { whole = w; sound = ap₂ both (each-in b ranged h) (le-leb (word b receiveLevel) (word b receiveSize) l) }
+usable-words {b} w h l = record { whole = w; sound = ap₂ both (each-in leasts greatests b ranged h) (le-leb (word b receiveLevel) (word b receiveSize) l) }
 
 module _ {b : List ℕ} (u : Usable b) where
-  in-all : inRanges b ranged ≡ true
+  in-all : allWithin leasts greatests b ranged ≡ true
   unfolding sound
   in-all = both-left _ _ (u .sound)
 
   pub word-in : (i : ℕ) → i < ranged → inRange i (word b i) ≡ true
-  word-in i h = in-each b ranged i in-all h
+  word-in i h = in-each leasts greatests b ranged i in-all h
 
   -- "receive level 0 to size"
   pub level-in-size : word b receiveLevel ≤ word b receiveSize
   unfolding sound
-  level-in-size = leb-true (word b receiveLevel) (word b receiveSize) (both-right (inRanges b ranged) _ (u .sound))
+  level-in-size = leb-true (word b receiveLevel) (word b receiveSize) (both-right (allWithin leasts greatests b ranged) _ (u .sound))
 
   -- a word with a range is no less than its least value and no more than its greatest
   pub at-least : (i : ℕ) → i < ranged → getD leasts i 0 ≤ word b i
-  at-least i h = leb-true (getD leasts i 0) (word b i) (both-left _ _ (word-in i h))
+  at-least i h = no-less leasts greatests i (word b i) (word-in i h)
 
   pub at-most : (i : ℕ) → i < ranged → word b i ≤ getD greatests i 0
-  at-most i h = leb-true (word b i) (getD greatests i 0) (both-right (leb (getD leasts i 0) (word b i)) _ (word-in i h))
+  at-most i h = no-more leasts greatests i (word b i) (word-in i h)
 
   -- ---- a block stays usable where what is stored is in range
 

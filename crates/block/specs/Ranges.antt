@@ -28,18 +28,22 @@ abbrev pub both : Bool → Bool → Bool
 both true t = t
 both false t = false
 
--- whether x is in the range of word i: "Arguments have the same ranges"
-abbrev pub inRange : ℕ → ℕ → Bool
-inRange i x = both (leb (getD leasts i 0) x) (leb x (getD greatests i 0))
+-- whether x is between the least and the greatest value that two tables have for word i
+abbrev pub within : List ℕ → List ℕ → ℕ → ℕ → Bool
+within lo hi i x = both (leb (getD lo i 0) x) (leb x (getD hi i 0))
 
--- whether the first n words of a block are in their ranges
-unfoldable pub inRanges : List ℕ → ℕ → Bool
-inRanges b zero = true
-inRanges b (suc n) = both (inRanges b n) (inRange n (word b n))
+-- whether each of the first n words is
+unfoldable pub allWithin : List ℕ → List ℕ → List ℕ → ℕ → Bool
+allWithin lo hi b zero = true
+allWithin lo hi b (suc n) = both (allWithin lo hi b n) (within lo hi n (word b n))
+
+-- whether x is in the range of a block's word i: "Arguments have the same ranges"
+abbrev pub inRange : ℕ → ℕ → Bool
+inRange i x = within leasts greatests i x
 
 -- "a stored number .. of the addressed channel is outside its range": none is; and "receive level 0 to size"
 unfoldable pub sound : List ℕ → Bool
-sound b = both (inRanges b ranged) (leb (word b receiveLevel) (word b receiveSize))
+sound b = both (allWithin leasts greatests b ranged) (leb (word b receiveLevel) (word b receiveSize))
 
 -- what the calls on a block may take for granted: its words are there, and it is sound
 pub record Usable (b : List ℕ) : Type 0 where

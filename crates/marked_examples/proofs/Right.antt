@@ -1,12 +1,18 @@
 -- Every marked example is right, by computation.
 -- Assumes nothing.
 use mathlib.Core.Path.{refl}
-use lib.Count.{onesIn}
+use mathlib.Core.List.{flatten}
 use Rattle.word.specs.Word.{ones, reversed}
 use Rattle.word.specs.Parity.{oddParity, asSent, errorMark}
 use Rattle.word.specs.Gap.{clamped}
-use Rattle.marked_examples.specs.Marked.{marked, Right}
+use Rattle.ring.specs.Ring.{words, held}
+use Rattle.schedule.specs.Output.{values}
+use Rattle.schedule.specs.Schedule.{onward, gapStep, jumpStep, commandStep, stepped}
+use Rattle.receive.specs.Arrival.{filtered, arrival}
+use Rattle.receive.specs.Arrived.{stored}
+use Rattle.receive.specs.Entries.{stampOf, entryOf, mailed}
+use Rattle.marked_examples.specs.Marked.{receiving, received, marked, Right}
 
 pub right : Right
-unfolding Right marked onesIn ones reversed oddParity asSent errorMark clamped
+unfolding Right marked receiving received flatten ones reversed oddParity asSent errorMark clamped words held values onward gapStep jumpStep commandStep stepped filtered arrival stored stampOf entryOf mailed
 right = refl

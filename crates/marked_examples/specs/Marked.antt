@@ -1,10 +1,37 @@
 -- Paper 01, "Marked examples": those marked P.
 use Prim.Native.Nat.{ℕ}
 use mathlib.Core.Path.{_≡_}
-use mathlib.Core.List.{List, [], _∷_, map}
+use mathlib.Core.List.{List, [], _∷_, _++_, map, flatten}
+use lib.ListN.{set}
 use Rattle.word.specs.Word.{label}
 use Rattle.word.specs.Parity.{asSent, errorMark}
 use Rattle.word.specs.Gap.{clamped}
+use Rattle.block.specs.Layout.{word, receiver, matching, fifoKind, receiveSize, receiveAccepted, receiveOverwritten, blockWords}
+use Rattle.block.specs.Factory.{factoryOf}
+use Rattle.block.specs.Fifos.{receivePlaces, fifo}
+use Rattle.schedule.specs.Codes.{running, code, messageAddress}
+use Rattle.schedule.specs.Output.{values}
+use Rattle.schedule.specs.Schedule.{stepped}
+use Rattle.schedule.specs.declared.Place.{Place}
+use Rattle.schedule.specs.declared.Outcome.{Outcome}
+use Rattle.receive.specs.Arrival.{arrival, outcome}
+use Rattle.receive.specs.Arrived.{arrived}
+
+-- a block as power-up leaves it, but with the receiver on and these settings of match, FIFO kind and size
+unfoldable pub receiving : ℕ → ℕ → ℕ → List ℕ
+receiving matched kind size = set (set (set (set (factoryOf blockWords) receiver 1) matching matched) fifoKind kind) receiveSize size
+
+-- the entries that the receive FIFO holds, each as status, word and stamp, then the counts of accepted and overwritten
+unfoldable pub received : List ℕ → List ℕ
+received b = flatten (fifo receivePlaces b .held) ++ (word b receiveAccepted ∷ word b receiveOverwritten ∷ [])
+
+-- a running schedule at an address, and its async word, which is waiting where its mark is 1
+abbrev pub runs : ℕ → ℕ → ℕ → Place
+runs address waiting word = record { state = running; address = address; waiting = waiting; word = word }
+
+-- the numbers of a step's output, then whether an async word still waits
+abbrev pub sent : Outcome → List ℕ
+sent o = values (o .output) ++ (o .place .waiting ∷ [])
 
 -- an example: its number, what the definitions give, and what the paper says
 pub record Example : Type 0 where
@@ -12,14 +39,31 @@ pub record Example : Type 0 where
   pub gives : List ℕ
   pub says : List ℕ
 
+-- A is 0xA1 and B is 0xB0, neither in error; the async word is A, and the command stands at address 9
 unfoldable pub marked : List Example
 marked =
     -- "word 0 is in error; sent with parity it is 0x80000000"
     record { number = 1; gives = errorMark 1 0 ∷ asSent 1 0 ∷ []; says = 1 ∷ 0x80000000 ∷ [] }
     -- "low byte 0xA1 is label octal 205"
     ∷ record { number = 2; gives = label 0xA1 ∷ []; says = 0o205 ∷ [] }
+    -- "size 1, bounded, A then B: A held, accepted 1"
+    ∷ record { number = 3; gives = received (arrived 0 0xB0 (arrived 0 0xA1 (receiving 0 0 1))); says = 0 ∷ 0xA1 ∷ 0 ∷ 1 ∷ 0 ∷ [] }
+    -- "size 1, circular, A then B: B held, accepted 2, overwritten 1"
+    ∷ record { number = 4; gives = received (arrived 0 0xB0 (arrived 0 0xA1 (receiving 0 1 1))); says = 0 ∷ 0xB0 ∷ 0 ∷ 2 ∷ 1 ∷ [] }
+    -- "gap 39 with async waiting: 39 null, still waiting"
+    ∷ record { number = 6; gives = sent (stepped (runs 9 1 0xA1) 1 0x2000 39); says = 3 ∷ 39 ∷ 0 ∷ 0 ∷ 1 ∷ [] }
+    -- "gap 40: 4, word, 4"
+    ∷ record { number = 7; gives = sent (stepped (runs 9 1 0xA1) 1 0x2000 40); says = 4 ∷ 4 ∷ 0xA1 ∷ 4 ∷ 0 ∷ [] }
     -- "gap 3: 4"
     ∷ record { number = 8; gives = clamped 3 ∷ []; says = 4 ∷ [] }
+    -- "receiver and match on, empty set: filtered"
+    ∷ record { number = 10; gives = outcome (arrival 0xA1 (receiving 1 0 255)) ∷ []; says = 1 ∷ [] }
+    -- "command 0x1F05 is message 5; 0x7000 and 0x6100 are reserved"
+    ∷ record {
+      number = 11;
+      gives = code 0x1F05 ∷ messageAddress 0x1F05 ∷ values (stepped (runs 9 0 0) 1 0x7000 0 .output) ++ values (stepped (runs 9 0 0) 1 0x6100 0 .output);
+      says = 1 ∷ 5 ∷ 5 ∷ 9 ∷ 0 ∷ 0 ∷ 5 ∷ 9 ∷ 0 ∷ 0 ∷ [];
+    }
     ∷ []
 
 -- the definitions give what the paper says, in every example

@@ -1,26 +1,31 @@
--- What a usable block's receive words are, what an arrival's decision tells, and what a mailbox store leaves.
+-- The bounds of a usable block's receive words, what an arrival's decision tells, and what the stores of an arrival make.
 -- Assumes nothing.
-use mathlib.Core.Path.{_≡_, refl, ap}
+use mathlib.Core.Path.{_≡_, refl, ap, ap₂, _∙_}
+use mathlib.Core.Logic.{_≢_}
 use mathlib.Core.Bool.{Bool, true, false, cond}
 use mathlib.Core.List.{List}
-use Prim.Native.Nat.{ℕ, _≤_, _<_}
+use Prim.Native.Nat.{ℕ, _+_, _≤_, _<_}
+use native.Mathlib.Numerals.{towards-suc}
 use native.Mathlib.Omega.{arith}
-use borrow.Author.Tests.{ltb-true, ltb-false}
+use borrow.Author.Tests.{ltb-true, ltb-false, ne-eqb}
 use lib.Dec.{eqb, ltb}
-use lib.ListN.{length}
+use lib.ListN.{length, set}
 use lib.Seq.{sets}
 use Rattle.word.specs.Word.{index, inError}
 use Rattle.word.specs.Parity.{errorMark}
 use Rattle.ring.specs.Ring.{slots}
 use Rattle.ring.proofs.Words.{sets-other}
-use Rattle.block.specs.Layout.{word, receiver, fifoKind, receiveMode, receiveLevel, receivePosition, receiveSize, mailboxes, blockWords}
+use Rattle.block.specs.Layout.{word, receiver, parity, stamps, fifoKind, receiveMode, receiveLevel, receivePosition, receiveSize, mailboxes, blockWords}
 use Rattle.block.specs.Ranges.{leasts, greatests, Usable}
+use Rattle.block.specs.Fifos.{receivePlaces, entryAppended}
 use Rattle.block.proofs.Sound.{at-least, at-most, level-in-size, usable-beyond}
 use Rattle.receive.specs.Arrival.{outcome, filtered, arrival}
-use Rattle.receive.specs.Entries.{mailboxAt, mailOf, mailed}
+use Rattle.receive.specs.Entries.{stampOf, entryOf, mailboxAt, newMark, mailOf, mailed}
+use Rattle.receive.specs.Arrived.{overwriting, stored}
 use Rattle.receive.specs.declared.Arrival.{Arrival}
 use Rattle.receive.specs.declared.Arrival.the-variants.{Ignored, Filtered, Appended, Dropped, Overwriting}
 
+-- level, size and position of the receive FIFO
 pub record Bounds (b : List ℕ) : Type 0 where
   pub whole : length b ≡ blockWords
   pub position : word b receivePosition < slots
@@ -39,6 +44,7 @@ bounds u =
       size = at-most u receiveSize (omega arith);
     }
 
+-- a parity error's mark is 1 or 0
 pub mark-le : (parity w : ℕ) → errorMark parity w ≤ 1
 unfolding errorMark
 mark-le parity w = go (eqb parity 0) (inError w)
@@ -50,7 +56,7 @@ mark-le parity w = go (eqb parity 0) (inError w)
 
 -- ---- what a decision tells
 
--- whether the FIFO has room, and no more
+-- appended tells that the FIFO has room, and overwriting that it has none
 record Told (room : Bool) (a : Arrival) : Type 0 where
   appended : a ≡ Appended → room ≡ true
   overwriting : a ≡ Overwriting → room ≡ false
@@ -76,7 +82,7 @@ room w b e = ltb-true (word b receiveLevel) (word b receiveSize) (told w b .appe
 pub full : (w : ℕ) (b : List ℕ) → arrival w b ≡ Overwriting → word b receiveSize ≤ word b receiveLevel
 full w b e = ltb-false (word b receiveLevel) (word b receiveSize) (told w b .overwriting e)
 
--- ---- the mailboxes stand behind the words with a range, the counts and both rings
+-- ---- a mailbox takes the word: the mailboxes stand behind all words with a range, the counts and both rings
 
 pub mail-keeps : {b : List ℕ} → Usable b → (stamp w : ℕ) → Usable (mailed stamp w b)
 unfolding mailed
@@ -104,6 +110,26 @@ mail-room b m stamp w a u e d t =
     let r : word b receiveLevel < word b receiveSize = room w b (cc) in
     rw (e, mail-before stamp w b receiveLevel (omega arith)) (omega (arith, bounds u))
 
--- a parity error's mark fits wherever the code computes with it
+-- ---- what the code stores
+
+-- what is stored, from what the calls leave: `m` after the mailbox, `c` after the entry `e`
+pub store-appended : (b m c e : List ℕ) (stamp w : ℕ) (a : Arrival) → a ≡ Appended → m ≡ mailed stamp w b → e ≡ entryOf stamp w b
+    → c ≡ entryAppended receivePlaces m e → c ≡ stored a stamp w b
+unfolding stored
+store-appended b m c e stamp w a d p q r = rw d (r ∙ ap₂ (entryAppended receivePlaces) p q)
+
+pub store-overwriting : (b m c e : List ℕ) (stamp w : ℕ) (a : Arrival) → a ≡ Overwriting → m ≡ mailed stamp w b → e ≡ entryOf stamp w b
+    → c ≡ overwriting m e → c ≡ stored a stamp w b
+unfolding stored
+store-overwriting b m c e stamp w a d p q r = rw d (r ∙ ap₂ overwriting p q)
+
+-- the stores of a mailbox, from what the code computes for them
+pub mail-stores : (b : List ℕ) (stamp w mark i kept : ℕ) → word b receiveMode ≢ 0 → mark ≡ errorMark (word b parity) w → i ≡ index w
+    → kept ≡ stampOf (word b stamps) stamp
+    → set (set (set b (mailboxAt i) (mark + newMark)) (mailboxAt i + 1) w) (mailboxAt i + 2) kept ≡ mailed stamp w b
+unfolding mailed
+mail-stores b stamp w mark i kept on p q r = rw (ne-eqb (word b receiveMode) 0 on, p, q, r) (simp towards-suc)
+
+-- the mark that the code computes
 pub mark-fits : (mark parity w : ℕ) → mark ≡ errorMark parity w → mark ≤ 1
 mark-fits mark parity w e = rw e (mark-le parity w)

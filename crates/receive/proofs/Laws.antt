@@ -16,14 +16,15 @@ use Rattle.ring.proofs.Laws.{take-oldest}
 use Rattle.block.specs.Layout.{word, parity, stamps, receiveMode, settings, receiveLevel, receivePosition, receiveSize, receiveAccepted, receiveRead, receiveOverwritten, receiveRing, receiveRingAt, mailboxes, Whole}
 use Rattle.block.specs.Ranges.{leasts, greatests, Usable}
 use Rattle.block.specs.Clearing.{counted}
+use Rattle.block.specs.Status.{parityErrorSignal}
 use Rattle.block.specs.Fifos.{Places, receivePlaces, transmitPlaces, entryAppended, entryOverwriting, Fifo, fifo, accepts, gives, overwrites}
 use Rattle.block.proofs.Words.{words}
 use Rattle.block.proofs.Sound.{in-range, usable-level, usable-beyond}
 use Rattle.block.proofs.Keeps.{usable-store, usable-behind}
 use Rattle.block.proofs.Fifos.{Apart, receive-proper, store-apart, take-law, append-law, overwrite-law}
 use Rattle.receive.specs.Arrival.{arrival}
-use Rattle.receive.specs.Entries.{stampOf, entryOf, mailboxAt, mailOf, mailed}
-use Rattle.receive.specs.Arrived.{overwriting, stored, arrived}
+use Rattle.receive.specs.Entries.{stampOf, wordEntry, indexEntry, entryOf, mailboxAt, mailOf, mailed}
+use Rattle.receive.specs.Arrived.{overwriting, stored, arrived, errorSignal, signalled, arrivalSignal}
 use Rattle.receive.specs.Reading.{shown, readAnswer, readAfter, mailboxAfter}
 use Rattle.receive.specs.Fates.{receives, overwrittenBy}
 use Rattle.receive.specs.declared.Arrival.{Arrival}
@@ -36,7 +37,7 @@ pub entry-width : (stamp w : ℕ) (b : List ℕ) → length (entryOf stamp w b) 
 unfolding entryOf
 entry-width stamp w b = go (eqb (word b receiveMode) 0)
   where
-    go : (t : Bool) → length (cond t (errorMark (word b parity) w ∷ w ∷ stampOf (word b stamps) stamp ∷ []) (0 ∷ index w ∷ 0 ∷ [])) ≡ 3
+    go : (t : Bool) → length (cond t (wordEntry stamp w b) (indexEntry w)) ≡ 3
     go true = refl
     go false = refl
 
@@ -48,9 +49,7 @@ entry-shown stamp w b = go (eqb (word b receiveMode) 0)
     low : errorMark (word b parity) w % 4 ≡ errorMark (word b parity) w
     low = omega (arith, mark-le (word b parity) w)
 
-    go : (t : Bool)
-        → shown (cond t (errorMark (word b parity) w ∷ w ∷ stampOf (word b stamps) stamp ∷ []) (0 ∷ index w ∷ 0 ∷ []))
-        ≡ cond t (errorMark (word b parity) w ∷ w ∷ stampOf (word b stamps) stamp ∷ []) (0 ∷ index w ∷ 0 ∷ [])
+    go : (t : Bool) → shown (cond t (wordEntry stamp w b) (indexEntry w)) ≡ cond t (wordEntry stamp w b) (indexEntry w)
     go true = ap (λ (x : ℕ). x ∷ w ∷ stampOf (word b stamps) stamp ∷ []) low
     go false = refl
 
@@ -137,7 +136,7 @@ module _ {b : List ℕ} (u : Usable b) (e : List ℕ) where
       let p : ℕ = next slots (word b receivePosition) in
       let k : ℕ = word b receivePosition + word b receiveLevel in
       let s = usable-store (ring-keeps k) receivePosition p (omega arith) (in-range receivePosition p zero-le (omega arith)) in
-      usable-behind (usable-behind s receiveAccepted _ (omega arith)) receiveOverwritten _ (omega arith)
+      usable-behind (usable-behind s receiveAccepted _ (omega arith)) _ _ (omega arith)
 
 module _ (b e : List ℕ) (long : length e ≡ 3) where
   ring-leaves : (k : ℕ) → Leaves b (sets b (slot receiveRing k) e)
@@ -149,7 +148,7 @@ module _ (b e : List ℕ) (long : length e ≡ 3) where
 
   overwrite-leaves : Leaves b (overwriting b e)
   overwrite-leaves =
-      store-leaves receiveOverwritten _ (omega arith)
+      store-leaves _ _ (omega arith)
       (store-leaves receiveAccepted _ (omega arith)
       (store-leaves receivePosition _ (omega arith) (ring-leaves (word b receivePosition + word b receiveLevel))))
 
@@ -214,7 +213,7 @@ module _ {b : List ℕ} (u : Usable b) (stamp w : ℕ) where
           ∙ ap (λ (f : Fifo). accepts counted f (entryOf stamp w b)) mail-left
       go Dropped d = mail-left
       go Overwriting d =
-          store-apart receivePlaces (entryOverwriting receivePlaces mail (entryOf stamp w b)) receiveOverwritten _ (omega arith) (omega arith)
+          store-apart receivePlaces (entryOverwriting receivePlaces mail (entryOf stamp w b)) _ _ (omega arith) (omega arith)
           ∙ overwrite-law receivePlaces receive-proper mail (usable .whole) (entryOf stamp w b) (entry-width stamp w b)
           (omega (arith, is-full d, bounds usable)) (omega (arith, bounds usable))
           ∙ ap (λ (f : Fifo). overwrites counted f (entryOf stamp w b)) mail-left
@@ -233,6 +232,25 @@ module _ {b : List ℕ} (u : Usable b) (stamp w : ℕ) where
       go Appended = append-overwritten mail (entryOf stamp w b) ∙ mail-left
       go Dropped = mail-left
       go Overwriting = overwrite-overwritten mail (entryOf stamp w b) (usable .whole) ∙ ap (λ (n : ℕ). counted n 1) mail-left
+
+-- an arrival signals a parity error or nothing
+pub arrive-signal : (w : ℕ) (b : List ℕ) → arrivalSignal w b ≤ parityErrorSignal
+unfolding signalled
+arrive-signal w b = go (arrival w b)
+  where
+    error : errorSignal w b ≤ parityErrorSignal
+    error = omega (arith, mark-le (word b parity) w)
+
+    dropped : (t : Bool) → cond t 0 (errorSignal w b) ≤ parityErrorSignal
+    dropped true = zero-le
+    dropped false = error
+
+    go : (a : Arrival) → signalled a w b ≤ parityErrorSignal
+    go Ignored = zero-le
+    go Filtered = zero-le
+    go Appended = error
+    go Dropped = dropped (eqb (word b receiveMode) 0)
+    go Overwriting = error
 
 -- ---- a FIFO read
 

@@ -12,12 +12,17 @@ use Rattle.block.specs.Layout.{word, parity, stamps, receiveMode, mailboxes}
 unfoldable pub stampOf : ℕ → ℕ → ℕ
 stampOf stamps stamp = cond (eqb stamps 0) 0 stamp
 
--- "in FIFO mode an entry of status (1 for a parity error, else 0), word and stamp"; in mailbox mode "the index .. as entry (0, index, 0)"
+-- "an entry of status (1 for a parity error, else 0), word and stamp"
+abbrev pub wordEntry : ℕ → ℕ → List ℕ → List ℕ
+wordEntry stamp w b = errorMark (word b parity) w ∷ w ∷ stampOf (word b stamps) stamp ∷ []
+
+-- "entry (0, index, 0)"
+abbrev pub indexEntry : ℕ → List ℕ
+indexEntry w = 0 ∷ index w ∷ 0 ∷ []
+
+-- the first "in FIFO mode", the second in mailbox mode
 unfoldable pub entryOf : ℕ → ℕ → List ℕ → List ℕ
-entryOf stamp w b =
-    cond (eqb (word b receiveMode) 0)
-    (errorMark (word b parity) w ∷ w ∷ stampOf (word b stamps) stamp ∷ [])
-    (0 ∷ index w ∷ 0 ∷ [])
+entryOf stamp w b = cond (eqb (word b receiveMode) 0) (wordEntry stamp w b) (indexEntry w)
 
 -- the first word of the mailbox of an index
 abbrev pub mailboxAt : ℕ → ℕ

@@ -1,10 +1,8 @@
 -- `receive::mail` meets its contract: its three stores are those of the definition.
 -- Assumes nothing.
-use Rattle.receive.proofs.Bounds.{mark-fits}
-use borrow.Author.Tests.{ne-eqb}
+use Rattle.receive.proofs.Bounds.{mail-stores, mark-fits}
 use Rattle.word.proofs.Branches.{branches}
 use native.Mathlib.Omega.{arith}
-use native.Mathlib.Numerals.{towards-suc}
 use lib.ListN.{length-set}
 use Rattle.receive.specs.Entries.{mailed}
 use borrow.Author.Needs.{needs}
@@ -27,10 +25,7 @@ slice-write-block-3 : tie.Need-slice-write-block-3
 slice-write-block-3 c = simp length-set (omega arith)
 
 returns-2 : tie.Need-returns-2
-unfolding mailed
-returns-2 c =
-    let on = ne-eqb _ 0 (c .before .before .before .before .before .if1 .left) in
-    rw (on, c .before .before .before .error-mark .ensures, c .before .stamp-of .ensures, c .index .ensures) (simp towards-suc)
+returns-2 c = search mail-stores
 
 pub mail-spec : {M : Type 1} → statement M
 mail-spec =

@@ -1,9 +1,7 @@
 -- `receive::store` meets its contract: each arm is a case of the definition, from what its calls ensure.
 -- Assumes nothing.
-use mathlib.Core.Path.{_∙_, ap₂}
-use Rattle.block.specs.Fifos.{receivePlaces, entryAppended}
-use Rattle.receive.proofs.Bounds.{mail-usable, mail-room}
-use Rattle.receive.specs.Arrived.{overwriting, stored}
+use Rattle.receive.proofs.Bounds.{mail-usable, mail-room, store-appended, store-overwriting}
+use Rattle.receive.specs.Arrived.{stored}
 use borrow.Author.Needs.{needs}
 use Rattle.receive.proofs.store.Statement.{statement}
 use Rattle.receive.proofs.store.Tie as tie
@@ -23,22 +21,14 @@ unfolding stored
 returns-2 c = cc
 
 returns-3 : tie.Need-returns-3
-unfolding stored
-returns-3 c =
-    rw (c .before .before .before .before .before .before .before .before .enum-told3 .given .1)
-    (c .before .before .append .ensures
-    ∙ ap₂ (entryAppended receivePlaces) (c .before .before .before .before .before .before .mail .ensures) (c .before .before .before .before .before .before .before .before .before .before .entry-of .ensures))
+returns-3 c = search store-appended
 
 returns-4 : tie.Need-returns-4
 unfolding stored
 returns-4 c = cc
 
 returns-5 : tie.Need-returns-5
-unfolding stored
-returns-5 c =
-    rw (c .before .before .before .before .before .before .before .before .enum-told5 .given .1)
-    (c .before .before .overwrite .ensures
-    ∙ ap₂ overwriting (c .before .before .before .before .before .before .mail3 .ensures) (c .before .before .before .before .before .before .before .before .before .before .entry-of .ensures))
+returns-5 c = search store-overwriting
 
 pub store-spec : {M : Type 1} → statement M
 store-spec =

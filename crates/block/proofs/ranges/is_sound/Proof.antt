@@ -7,23 +7,23 @@ use mathlib.Core.Bool.{true}
 use native.Mathlib.Numerals.{add-one}
 use native.Mathlib.Omega.{arith}
 use Rattle.block.specs.Layout.{ranged}
-use Rattle.block.specs.Ranges.{inRanges}
+use Rattle.block.specs.Ranges.{leasts, greatests, allWithin}
 use Rattle.block.proofs.Sound.{outside-unsound, one-more, all-in}
 use Rattle.block.proofs.ranges.is_sound.Statement.{statement}
 use Rattle.block.proofs.ranges.is_sound.Tie as tie
 
 abbrev Inv-loop : tie.InvT-loop
-Inv-loop block at₀ at = (at ≤ ranged) × (inRanges block at ≡ true)
+Inv-loop block at₀ at = (at ≤ ranged) × (allWithin leasts greatests block at ≡ true)
 
 abbrev μ-loop : tie.MeasureT-loop
 μ-loop block at₀ at = ranged - at
 
 loop-holds : tie.Need-loop-holds Inv-loop μ-loop
-unfolding inRanges
+unfolding allWithin
 loop-holds c = (omega arith, refl)
 
 loop-again : tie.Need-loop-again Inv-loop μ-loop
-loop-again c = (search needs, rw add-one (one-more _ _ (c .before .before .before .before .loop .inv .1) (sym (c .before .in-range .ensures) ∙ c .if1 .taken)))
+loop-again c = (search needs, rw add-one (one-more _ _ _ _ (c .before .before .before .before .loop .inv .1) (sym (c .before .in-range .ensures) ∙ c .if1 .taken)))
 
 returns : tie.Need-returns Inv-loop μ-loop
 returns c = sym (outside-unsound _ (c .before .before .before .before .loop .at) (search needs) (sym (c .before .in-range .ensures) ∙ c .if1 .left))

@@ -1,0 +1,50 @@
+-- Where each word stands in a module's lent memory (paper 01, "Memory and answer numbers"; docs/MEMORY.md).
+use Prim.Native.Nat.{ℕ, _+_, _*_, _-_, _≤_}
+use mathlib.Core.List.{List, _++_}
+use lib.ListN.{take, drop}
+use Rattle.block.specs.Layout.{word, blockWords}
+
+-- the module part
+abbrev pub count : ℕ
+count = 0
+
+abbrev pub stamp : ℕ
+stamp = 1
+
+abbrev pub resolution : ℕ
+resolution = 2
+
+abbrev pub threshold : ℕ
+threshold = 3
+
+-- "the module's twelve counters", those of unused channels too
+abbrev pub counters : ℕ
+counters = 4
+
+abbrev pub moduleWords : ℕ
+moduleWords = 16
+
+-- "A module has 1 to 12 channels"
+abbrev pub most : ℕ
+most = 12
+
+-- the words that n channels need
+abbrev pub need : ℕ → ℕ
+need n = moduleWords + n * blockWords
+
+-- memory of n words holds a module of k channels, and k is a number of channels
+pub record Framed (n k : ℕ) : Type 0 where
+  pub low : 1 ≤ k
+  pub high : k ≤ most
+  pub room : need k ≤ n
+
+-- where a channel's block begins
+abbrev pub base : ℕ → ℕ
+base ch = moduleWords + (ch - 1) * blockWords
+
+-- a channel's block, and the memory with another block in its place
+unfoldable pub block : List ℕ → ℕ → List ℕ
+block m ch = take blockWords (drop (base ch) m)
+
+unfoldable pub withBlock : List ℕ → ℕ → List ℕ → List ℕ
+withBlock m ch b = take (base ch) m ++ (b ++ drop blockWords (drop (base ch) m))

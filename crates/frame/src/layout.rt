@@ -1,0 +1,30 @@
+// Where the words of the module part stand. The channels' blocks follow, channel 1 first.
+use block::layout::WORDS;
+ghost use mathlib.Core.Path.{_≡_};
+ghost use Prim.Native.Nat.{_≤_};
+ghost use Rattle.frame.specs.Layout.{need, most};
+
+pub const COUNT: usize = 0;
+
+pub const STAMP: usize = 1;
+
+pub const RESOLUTION: usize = 2;
+
+pub const THRESHOLD: usize = 3;
+
+// The twelve fault counters, also those of unused channels.
+pub const COUNTERS: usize = 4;
+
+// The words of the module part.
+pub const MODULE_WORDS: usize = 16;
+
+// The most channels that a module has.
+pub const MOST: u32 = 12;
+
+// The words that a module of `count` channels needs.
+pub fn need(count: u32) -> usize
+    requires { ⌜ count ≤ most ⌝ }
+    ensures { λ r. ⌜ r ≡ need count ⌝ }
+{
+    MODULE_WORDS + (count as usize) * WORDS
+}

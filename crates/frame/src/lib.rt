@@ -1,0 +1,4 @@
+// A module's lent memory: the module part, the channels' blocks behind it, and when the memory itself is refused.
+pub mod counters;
+pub mod layout;
+pub mod refusals;

@@ -1,0 +1,117 @@
+// When a module's memory is refused: 1 short, 2 unsound, 3 channel, or 0 for none.
+use crate::layout::COUNT;
+use crate::layout::MODULE_WORDS;
+use crate::layout::MOST;
+use crate::layout::need;
+use block::layout::WORDS;
+ghost use mathlib.Core.Path.{_≡_};
+ghost use mathlib.Core.Bool.{true};
+ghost use Prim.Native.Nat.{_≤_, _<_};
+ghost use lib.ListN.{length};
+ghost use Rattle.block.specs.Ranges.{within};
+ghost use Rattle.frame.specs.Layout.{moduleWords};
+ghost use Rattle.frame.specs.Refusals.{frameRefusal, partLeasts, partGreatests, partSound, partRefusal, addressRefusal, soundTo, wideRefusal};
+
+const LEAST: [u32; 16] = [1, 0, 0, 1, 0, 0, 0, 0, 0, 0, 0, 0, 0, 0, 0, 0];
+
+const GREATEST: [u32; 16] = [
+    12,
+    0xFFFF_FFFF,
+    3,
+    65535,
+    65536,
+    65536,
+    65536,
+    65536,
+    65536,
+    65536,
+    65536,
+    65536,
+    65536,
+    65536,
+    65536,
+    65536,
+];
+
+// The refusal of memory that is too short, or whose channel count is none.
+fn frame_refusal(mem: &[u32]) -> u32
+    ensures { λ r. ⌜ r ≡ frameRefusal (now (mem .entry)) ⌝ }
+{
+    if mem.len() < MODULE_WORDS {
+        return 1;
+    }
+    let count = mem[COUNT];
+    if count < 1 {
+        return 2;
+    }
+    if MOST < count {
+        return 2;
+    }
+    if mem.len() < MODULE_WORDS + (count as usize) * WORDS {
+        return 1;
+    }
+    0
+}
+
+// Whether a number is in the range of a word of the module part.
+fn in_part(at: usize, value: u32) -> bool
+    requires { ⌜ at < moduleWords ⌝ }
+    ensures { λ r. ⌜ r ≡ within partLeasts partGreatests at value ⌝ }
+{
+    if LEAST[at] <= value {
+        return value <= GREATEST[at];
+    }
+    false
+}
+
+// Whether every word of the module part is in its range.
+fn is_part_sound(mem: &[u32]) -> bool
+    requires { ⌜ moduleWords ≤ length (now mem) ⌝ }
+    ensures { λ r. ⌜ r ≡ partSound (now (mem .entry)) ⌝ }
+{
+    let mut at = 0;
+    while at < MODULE_WORDS {
+        if in_part(at, mem[at]) {
+            at += 1;
+        } else {
+            return false;
+        }
+    }
+    true
+}
+
+// The refusal of memory that is short or whose module part is unsound.
+pub fn part_refusal(mem: &[u32]) -> u32
+    ensures { λ r. ⌜ r ≡ partRefusal (now (mem .entry)) ⌝ }
+{
+    let frame = frame_refusal(mem);
+    if frame == 0 {
+        if is_part_sound(mem) {
+            return 0;
+        }
+        return 2;
+    }
+    frame
+}
+
+// The refusal of a call on a channel by its number, or for what the memory holds.
+pub fn address_refusal(mem: &[u32], channel: u32) -> u32
+    ensures { λ r. ⌜ r ≡ addressRefusal (now (mem .entry)) channel ⌝ }
+{
+    let part = part_refusal(mem);
+    if part == 0 {
+        if channel < 1 {
+            return 3;
+        }
+        if mem[COUNT] < channel {
+            return 3;
+        }
+        let from = MODULE_WORDS + ((channel - 1) as usize) * WORDS;
+        let to = from + WORDS;
+        if block::ranges::is_sound(&mem[from..to]) {
+            return 0;
+        }
+        return 2;
+    }
+    part
+}
