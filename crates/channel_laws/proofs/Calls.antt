@@ -1,0 +1,163 @@
+-- What every accepted call on a channel leaves.
+-- Assumes nothing.
+use mathlib.Core.Path.{_≡_, sym, ap, _∙_}
+use mathlib.Core.Bool.{Bool, true, false, cond}
+use mathlib.Core.List.{List}
+use Prim.Native.Nat.{ℕ, _%_, _+_, _≤_, _<_, zero-le}
+use native.Mathlib.Omega.{arith}
+use lib.Dec.{eqb}
+use lib.ListN.{take, set}
+use Rattle.block.specs.Layout.{word, settings, receiveLevel, receiveOverwritten, transmitLevel, latch, enable, levelMask}
+use Rattle.block.specs.Ranges.{leasts, greatests, Usable}
+use Rattle.block.specs.Clearing.{counted, stopped}
+use Rattle.block.specs.Matching.{matchAt}
+use Rattle.block.specs.Status.{ruled, faultWeight}
+use Rattle.block.specs.Tests.{fifosCleared, tested}
+use Rattle.block.specs.Fifos.{receivePlaces, transmitPlaces, Fifo, fifo}
+use Rattle.block.proofs.Sound.{in-range}
+use Rattle.block.proofs.Keeps.{stop-keeps, rule-keeps, clear-keeps, test-keeps, settable, write-keeps}
+use Rattle.receive.specs.Arrival.{arrival}
+use Rattle.receive.specs.Entries.{entryOf, mailboxAt}
+use Rattle.receive.specs.Fates.{receives}
+use Rattle.receive.proofs.Laws.{Leaves as ReceiveLeaves, entry-by-settings, arrive-keeps, arrive-leaves, arrive-fifo, arrive-overwritten, read-keeps, read-leaves, read-fifo, read-overwritten}
+use Rattle.transmit.proofs.Laws.{Leaves as TransmitLeaves, write-keeps as fifo-write-keeps, write-accepts, async-keeps, async-fifo, trigger-keeps, trigger-fifo, pause-keeps, pause-fifo, step-keeps, step-fifo}
+use Rattle.channel.specs.Answers.{place}
+use Rattle.channel.specs.Refusals.{settingCallRefusal, statusCallRefusal, receiveCallRefusal, transmitCallRefusal, channelRefusal}
+use Rattle.channel.specs.Groups.{settingAfter, memoryAfter, statusAfter, testAfter, receiveAnswer, receiveAfter, transmitAnswer, transmitAfter}
+use Rattle.channel.specs.Channel.{blockAfter, blockAnswer}
+use Rattle.channel.proofs.Accepted.{not-above, not-below}
+use Rattle.channel.specs.declared.calls.Setting.{Setting}
+use Rattle.channel.specs.declared.calls.Setting.the-variants.{Receiver, Transmitter, Parity, Match, Stamps, ReceiveMode, FifoKind, TransmitMode, ReceiveSize, AlmostFull, AlmostEmpty, Rate}
+use Rattle.channel.specs.declared.calls.SettingCall.{SettingCall}
+use Rattle.channel.specs.declared.calls.SettingCall.the-variants.{WriteSetting, ReadSetting}
+use Rattle.channel.specs.declared.calls.MemoryCall.{MemoryCall}
+use Rattle.channel.specs.declared.calls.MemoryCall.the-variants.{WriteMatch, ReadMatch, WriteSchedule, ReadSchedule, WriteMessage, ReadMessage}
+use Rattle.channel.specs.declared.calls.StatusCall.{StatusCall}
+use Rattle.channel.specs.declared.calls.StatusCall.the-variants.{ReadStatus, ClearLatch, WriteEnable, ReadEnable, WriteLevelMask, ReadLevelMask, ReadPending}
+use Rattle.channel.specs.declared.calls.TestCall.{TestCall}
+use Rattle.channel.specs.declared.calls.TestCall.the-variants.{Sample, ResetTest, InitiateTest}
+use Rattle.channel.specs.declared.calls.ReceiveCall.{ReceiveCall}
+use Rattle.channel.specs.declared.calls.ReceiveCall.the-variants.{Arrive, ReadFifo, ReadMailbox}
+use Rattle.channel.specs.declared.calls.TransmitCall.{TransmitCall}
+use Rattle.channel.specs.declared.calls.TransmitCall.the-variants.{WriteFifo, WriteAsync, Trigger, Pause, Stop, Step}
+use Rattle.channel.specs.declared.calls.ChannelCall.{ChannelCall}
+use Rattle.channel.specs.declared.calls.ChannelCall.the-variants.{Settings, Memories, Status, Tests, Reads, Receive, Transmit}
+use Rattle.channel.specs.declared.calls.Given.{Given}
+use Rattle.channel_laws.specs.Kept.{Kept, keptOf, withReceive, withOverwritten, withTransmit, bothCleared, settingFate, testFate, receiveFate, transmitFate, keptAfter}
+use Rattle.channel_laws.proofs.Holds.{Holds, here, parts, kept-setting, store-kept, stored, same-settings}
+use Rattle.channel_laws.proofs.Changes.{stop-kept, both-clear-kept, write-kept}
+
+-- the rule stores the latch alone
+ruled-holds : {c : List ℕ} {h : Kept} → Holds c h → (before holds : ℕ) → Holds (ruled before holds c) h
+ruled-holds {c} k before holds =
+    record { usable = rule-keeps (k .usable) before holds; is = store-kept c latch _ (omega arith) ∙ k .is }
+
+-- ---- settings
+
+pub place-in : (s : Setting) → place s < settings
+place-in Receiver = omega arith
+place-in Transmitter = omega arith
+place-in Parity = omega arith
+place-in Match = omega arith
+place-in Stamps = omega arith
+place-in ReceiveMode = omega arith
+place-in FifoKind = omega arith
+place-in TransmitMode = omega arith
+place-in ReceiveSize = omega arith
+place-in AlmostFull = omega arith
+place-in AlmostEmpty = omega arith
+place-in Rate = omega arith
+
+setting-left : (k : SettingCall) {b : List ℕ} → Usable b → settingCallRefusal k b ≡ 0 → Holds (settingAfter k b) (settingFate counted k (keptOf b))
+setting-left (WriteSetting s v) {b} u e =
+    record {
+      usable = write-keeps u (place s) v (place-in s) (settable (place s) v b e);
+      is = write-kept b v (u .whole) (place s) (place-in s);
+    }
+setting-left (ReadSetting s) u e = here u
+
+-- ---- memories, masks and tests
+
+-- a store behind both rings
+behind : {b : List ℕ} → Usable b → (i v : ℕ) → matchAt 0 ≤ i → Holds (set b i v) (keptOf b)
+behind u i v l = stored (here u) i v (omega arith) (λ h. absurd (omega arith))
+
+memory-left : (k : MemoryCall) {b : List ℕ} → Usable b → Holds (memoryAfter k b) (keptOf b)
+memory-left (WriteMatch i v) u = behind u (matchAt i) _ (omega arith)
+memory-left (ReadMatch i) u = here u
+memory-left (WriteSchedule a v) u = behind u _ v (omega arith)
+memory-left (ReadSchedule a) u = here u
+memory-left (WriteMessage a v) u = behind u _ v (omega arith)
+memory-left (ReadMessage a) u = here u
+
+status-left : (k : StatusCall) {b : List ℕ} → Usable b → statusCallRefusal k ≡ 0 → Holds (statusAfter k b) (keptOf b)
+unfolding leasts greatests
+status-left ReadStatus u e = here u
+status-left (ClearLatch m) {b} u e = record { usable = clear-keeps u m; is = store-kept b latch _ (omega arith) }
+status-left (WriteEnable m) u e = stored (here u) enable m (omega arith) (λ _. in-range enable m zero-le (not-above 127 m 3 e))
+status-left ReadEnable u e = here u
+status-left (WriteLevelMask m) u e = stored (here u) levelMask m (omega arith) (λ _. in-range levelMask m zero-le (not-above 127 m 3 e))
+status-left ReadLevelMask u e = here u
+status-left ReadPending u e = here u
+
+test-left : (k : TestCall) {b : List ℕ} → Usable b → Holds (testAfter k b) (testFate counted k (keptOf b))
+unfolding tested
+test-left (Sample r) u = here u
+test-left ResetTest u = here u
+test-left (InitiateTest r) {b} u = record { usable = test-keeps u r; is = go (eqb r 0) }
+  where
+    stop : keptOf (stopped (fifosCleared b)) ≡ bothCleared counted (keptOf b)
+    stop = stop-kept (fifosCleared b) ∙ both-clear-kept b (u .whole)
+
+    go : (t : Bool) → keptOf (cond t (stopped (fifosCleared b)) (set (stopped (fifosCleared b)) latch (word b latch % faultWeight + faultWeight)))
+        ≡ bothCleared counted (keptOf b)
+    go true = stop
+    go false = store-kept (stopped (fifosCleared b)) latch _ (omega arith) ∙ stop
+
+-- ---- receiving
+
+received : {b c : List ℕ} {f : Fifo} {n : ℕ} → Usable b → Usable c → ReceiveLeaves b c → fifo receivePlaces c ≡ f → word c receiveOverwritten ≡ n
+    → Holds c (withOverwritten (withReceive (keptOf b) f) n)
+received {b} {c} u v l p q = record { usable = v; is = parts (same-settings b c (u .whole) (v .whole) (l .setting)) p q (l .transmit) }
+
+receive-left : (stamp : ℕ) (k : ReceiveCall) {b : List ℕ} → Usable b → receiveCallRefusal k b ≡ 0
+    → Holds (receiveAfter stamp k b) (receiveFate counted stamp k (receiveAnswer k b) (keptOf b))
+receive-left stamp (Arrive w) {b} u e =
+    received u (arrive-keeps u stamp w) (arrive-leaves u stamp w)
+    (arrive-fifo u stamp w ∙ ap (receives counted (arrival w b) (fifo receivePlaces b)) (sym entry))
+    (arrive-overwritten u stamp w)
+  where
+    entry : entryOf stamp w (take settings b) ≡ entryOf stamp w b
+    entry = entry-by-settings stamp w b (take settings b) (kept-setting b)
+receive-left stamp ReadFifo {b} u e =
+    received u (read-keeps u) (read-leaves b) (read-fifo u (not-below 1 (word b receiveLevel) 6 e)) (read-overwritten b)
+receive-left stamp (ReadMailbox i) u e = stored (here u) (mailboxAt i) _ (omega arith) (λ h. absurd (omega arith))
+
+-- ---- the transmitter
+
+transmitted : {b c : List ℕ} {f : Fifo} → Usable b → TransmitLeaves b c → fifo transmitPlaces c ≡ f → Holds c (withTransmit (keptOf b) f)
+transmitted {b} {c} u l p =
+    record { usable = l .usable; is = parts (same-settings b c (u .whole) (l .usable .whole) (l .settings)) (l .receive) (l .overwritten) p }
+
+transmit-left : (k : TransmitCall) {b : List ℕ} → Usable b → transmitCallRefusal k b ≡ 0
+    → Holds (transmitAfter k b) (transmitFate counted k (transmitAnswer k b) (keptOf b))
+transmit-left (WriteFifo w) {b} u e =
+    let room : word b transmitLevel < 255 = omega (arith, not-above 254 (word b transmitLevel) 5 e) in
+    transmitted u (fifo-write-keeps u w room) (write-accepts u w room)
+transmit-left (WriteAsync w) {b} u e = transmitted u (async-keeps u w) (async-fifo b w)
+transmit-left Trigger {b} u e = transmitted u (trigger-keeps u) (trigger-fifo b)
+transmit-left Pause {b} u e = transmitted u (pause-keeps u) (pause-fifo b)
+transmit-left Stop {b} u e = record { usable = stop-keeps u; is = stop-kept b }
+transmit-left Step {b} u e = transmitted u (step-keeps u) (step-fifo u)
+
+-- ---- every call
+
+pub left : (g : Given) (k : ChannelCall) {b : List ℕ} → Usable b → channelRefusal k b ≡ 0
+    → Holds (blockAfter g k b) (keptAfter counted (g .stamp) k (blockAnswer g k b) (keptOf b))
+left g (Settings k) u e = ruled-holds (setting-left k u e) _ _
+left g (Memories k) u e = ruled-holds (memory-left k u) _ _
+left g (Status k) u e = ruled-holds (status-left k u e) _ _
+left g (Tests k) u e = ruled-holds (test-left k u) _ _
+left g (Reads k) u e = ruled-holds (here u) _ _
+left g (Receive k) u e = ruled-holds (receive-left (g .stamp) k u e) _ _
+left g (Transmit k) u e = ruled-holds (transmit-left k u e) _ _

@@ -1,0 +1,117 @@
+-- What the changes of a block that several calls share make of what is kept: stops, clears and written settings.
+-- Assumes nothing.
+use mathlib.Core.Path.{_≡_, refl, sym, ap, _∙_}
+use mathlib.Core.Bool.{Bool, true, false, cond}
+use mathlib.Core.List.{List, [], _∷_}
+use Prim.Native.Nat.{ℕ, suc, _+_, _≤_, _<_}
+use native.Mathlib.Omega.{arith}
+use borrow.Author.Tests.{eqb-true}
+use lib.Dec.{eqb}
+use lib.ListN.{length, take, set}
+use lib.Seq.{sets, getD-set-other, take-set-le, take-set-lt, set-getD}
+use Rattle.block.specs.Layout.{word, settings, receiveMode, transmitMode, transmitter, receiveLevel, receiveCleared, receiveOverwritten, transmitLevel, transmitCleared, state, address, asyncMark, Whole}
+use Rattle.block.specs.Clearing.{counted, receiveFifoCleared, transmitFifoCleared, stopped, forgotten}
+use Rattle.block.specs.Settings.{receiveModeWritten, transmitModeWritten, transmitterWritten, written}
+use Rattle.block.specs.Tests.{fifosCleared}
+use Rattle.block.specs.Fifos.{receivePlaces, transmitPlaces, fifo, clears}
+use Rattle.block.proofs.Words.{words}
+use Rattle.block.proofs.Fifos.{receive-proper, transmit-proper, store-apart, clear-law}
+use Rattle.channel_laws.specs.Kept.{Kept, keptOf, withSettings, withSetting, withReceive, withTransmit, bothCleared, modeFate, settingWritten}
+use Rattle.channel_laws.proofs.Holds.{parts, kept-setting, store-kept}
+
+-- ---- the transmitter stopped
+
+pub stop-kept : (b : List ℕ) → keptOf (stopped b) ≡ keptOf b
+stop-kept b = store-kept (set b state 0) address 0 (omega arith) ∙ store-kept b state 0 (omega arith)
+
+pub forget-kept : (b : List ℕ) → keptOf (forgotten b) ≡ keptOf b
+forget-kept b = store-kept (stopped b) asyncMark 0 (omega arith) ∙ stop-kept b
+
+-- ---- the FIFOs cleared
+
+-- a FIFO's level and its cleared count, stored, leave the settings
+cleared-settings : (b : List ℕ) (i j v : ℕ) → settings ≤ i → settings ≤ j → take settings (set (set b i v) j 0) ≡ take settings b
+cleared-settings b i j v h l = take-set-le settings (set b i v) j 0 l ∙ take-set-le settings b i v h
+
+module _ (b : List ℕ) (w : Whole b) where
+  receive-clear-kept : keptOf (receiveFifoCleared b) ≡ withReceive (keptOf b) (clears counted (fifo receivePlaces b))
+  receive-clear-kept =
+      parts (cleared-settings b receiveCleared receiveLevel _ (omega arith) (omega arith)) (clear-law receivePlaces receive-proper b w)
+      (search words)
+      (store-apart transmitPlaces (set b receiveCleared _) receiveLevel 0 (omega arith) (omega arith)
+      ∙ store-apart transmitPlaces b receiveCleared _ (omega arith) (omega arith))
+
+  transmit-clear-kept : keptOf (transmitFifoCleared b) ≡ withTransmit (keptOf b) (clears counted (fifo transmitPlaces b))
+  transmit-clear-kept =
+      parts (cleared-settings b transmitCleared transmitLevel _ (omega arith) (omega arith))
+      (store-apart receivePlaces (set b transmitCleared _) transmitLevel 0 (omega arith) (omega arith)
+      ∙ store-apart receivePlaces b transmitCleared _ (omega arith) (omega arith))
+      (search words) (clear-law transmitPlaces transmit-proper b w)
+
+pub both-clear-kept : (b : List ℕ) → Whole b → keptOf (fifosCleared b) ≡ bothCleared counted (keptOf b)
+both-clear-kept b w =
+    transmit-clear-kept (receiveFifoCleared b) (search words)
+    ∙ ap (λ (h : Kept). withTransmit h (clears counted (h .transmit))) (receive-clear-kept b w)
+
+-- ---- a setting written
+
+module _ (b : List ℕ) (s v : ℕ) (h : s < settings) where
+  -- stored
+  setting-kept : keptOf (set b s v) ≡ withSetting (keptOf b) s v
+  setting-kept =
+      parts (take-set-lt settings b s v h) (store-apart receivePlaces b s v (omega arith) (omega arith))
+      (getD-set-other b s receiveOverwritten v 0 (omega arith)) (store-apart transmitPlaces b s v (omega arith) (omega arith))
+
+  -- or held already
+  already : word b s ≡ v → keptOf b ≡ withSetting (keptOf b) s v
+  already e =
+      ap (withSettings (keptOf b))
+      (sym (set-getD (take settings b) s 0) ∙ ap (set (take settings b) s) (kept-setting b s h ∙ e))
+
+-- several stored, one after another
+pub settings-kept : (b : List ℕ) (s : ℕ) (e : List ℕ) → s + length e ≤ settings
+    → keptOf (sets b s e) ≡ withSettings (keptOf b) (take settings (sets b s e))
+settings-kept b s [] h = refl
+settings-kept b s (v ∷ e) h =
+    settings-kept (set b s v) (suc s) e (omega arith)
+    ∙ ap (λ (k : Kept). withSettings k (take settings (sets (set b s v) (suc s) e))) (setting-kept b s v (omega arith))
+
+module _ (b : List ℕ) (v : ℕ) where
+  receive-mode-kept : Whole b → keptOf (receiveModeWritten v b) ≡ withSetting (withReceive (keptOf b) (modeFate counted v (keptOf b))) receiveMode v
+  receive-mode-kept w = rw (kept-setting b receiveMode (omega arith)) (go (eqb (word b receiveMode) v) refl)
+    where
+      go : (t : Bool) → eqb (word b receiveMode) v ≡ t
+          → keptOf (cond t b (set (receiveFifoCleared b) receiveMode v))
+          ≡ withSetting (withReceive (keptOf b) (cond t (fifo receivePlaces b) (clears counted (fifo receivePlaces b)))) receiveMode v
+      go true e = already b receiveMode v (omega arith) (eqb-true (word b receiveMode) v e)
+      go false e =
+          setting-kept (receiveFifoCleared b) receiveMode v (omega arith) ∙ ap (λ (h : Kept). withSetting h receiveMode v) (receive-clear-kept b w)
+
+  forgotten-kept : (s : ℕ) → s < settings → keptOf (set (forgotten b) s v) ≡ withSetting (keptOf b) s v
+  forgotten-kept s h = setting-kept (forgotten b) s v h ∙ ap (λ (k : Kept). withSetting k s v) (forget-kept b)
+
+  transmit-mode-kept : keptOf (transmitModeWritten v b) ≡ withSetting (keptOf b) transmitMode v
+  transmit-mode-kept = go (eqb (word b transmitMode) v) refl
+    where
+      go : (t : Bool) → eqb (word b transmitMode) v ≡ t → keptOf (cond t b (set (forgotten b) transmitMode v)) ≡ withSetting (keptOf b) transmitMode v
+      go true e = already b transmitMode v (omega arith) (eqb-true (word b transmitMode) v e)
+      go false e = forgotten-kept transmitMode (omega arith)
+
+  transmitter-kept : keptOf (transmitterWritten v b) ≡ withSetting (keptOf b) transmitter v
+  transmitter-kept = go (eqb v 0)
+    where
+      go : (t : Bool) → keptOf (cond t (set (forgotten b) transmitter v) (set b transmitter v)) ≡ withSetting (keptOf b) transmitter v
+      go true = forgotten-kept transmitter (omega arith)
+      go false = setting-kept b transmitter v (omega arith)
+
+  pub write-kept : Whole b → (s : ℕ) → s < settings → keptOf (written s v b) ≡ settingWritten counted s v (keptOf b)
+  unfolding written
+  write-kept w s h = go (eqb s receiveMode) (eqb s transmitMode) (eqb s transmitter) refl refl refl
+    where
+      go : (p q r : Bool) → eqb s receiveMode ≡ p → eqb s transmitMode ≡ q → eqb s transmitter ≡ r
+          → keptOf (cond p (receiveModeWritten v b) (cond q (transmitModeWritten v b) (cond r (transmitterWritten v b) (set b s v))))
+          ≡ withSetting (withReceive (keptOf b) (cond p (modeFate counted v (keptOf b)) (fifo receivePlaces b))) s v
+      go true q r x y z = rw (eqb-true s receiveMode x) (receive-mode-kept w)
+      go false true r x y z = rw (eqb-true s transmitMode y) transmit-mode-kept
+      go false false true x y z = rw (eqb-true s transmitter z) transmitter-kept
+      go false false false x y z = setting-kept b s v h

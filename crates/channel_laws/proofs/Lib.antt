@@ -1,0 +1,5 @@
+pub mod Holds
+pub mod Changes
+pub mod Calls
+pub mod Answers
+pub mod Resets

@@ -1,0 +1,93 @@
+-- What a module reset leaves of a block, and what is kept of a block at first.
+-- Assumes nothing.
+use mathlib.Core.Path.{_≡_, refl, ap, _∙_}
+use mathlib.Core.Bool.{Bool, true, false}
+use mathlib.Core.List.{List, [], _∷_, _++_}
+use Prim.Native.Nat.{ℕ, zero, suc, _-_, _≤_, _<_, zero-le}
+use native.Mathlib.Omega.{arith}
+use lib.Dec.{T}
+use lib.ListN.{getD, take, replicate, length-append, length-replicate, List·getD-eq-default}
+use Rattle.word.proofs.Computed.{at}
+use Rattle.ring.proofs.Laws.{none-held}
+use Rattle.block.specs.Layout.{word, settings, receiveLevel, receiveSize, receiveOverwritten, latch, enable, levelMask, ranged, blockWords, Whole}
+use Rattle.block.specs.Ranges.{leasts, greatests, inRange, Usable}
+use Rattle.block.specs.Clearing.{counted, forgotten}
+use Rattle.block.specs.Factory.{factorySettings, factoryOf, settingsToFactory}
+use Rattle.block.specs.Tests.{fifosCleared, blockReset}
+use Rattle.block.specs.Fifos.{Places, receivePlaces, transmitPlaces, fifo}
+use Rattle.block.proofs.Words.{words}
+use Rattle.block.proofs.Sound.{usable-words}
+use Rattle.block.proofs.Keeps.{factory-parts, reset-keeps}
+use Rattle.channel_laws.specs.Kept.{Kept, keptOf, withSettings, keptReset, noEntries, keptFirst}
+use Rattle.channel_laws.proofs.Holds.{Holds, parts, store-kept}
+use Rattle.channel_laws.proofs.Changes.{forget-kept, both-clear-kept, settings-kept}
+
+-- ---- a module reset
+
+factory-kept : (b : List ℕ) → Whole b → keptOf (settingsToFactory b) ≡ withSettings (keptOf b) factorySettings
+factory-kept b w =
+    settings-kept b 0 factorySettings (omega arith)
+    ∙ ap (λ (l : List ℕ). withSettings (keptOf b) (take settings l)) (factory-parts b (omega (arith, w)))
+
+pub reset-left : {b : List ℕ} → Usable b → Holds (blockReset b) (keptReset counted (keptOf b))
+unfolding blockReset
+reset-left {b} u =
+    record {
+      usable = reset-keeps u;
+      is =
+          store-kept _ levelMask 0 (omega arith) ∙ store-kept _ enable 0 (omega arith) ∙ store-kept _ latch 0 (omega arith)
+          ∙ factory-kept (forgotten (fifosCleared b)) (still b (u .whole))
+          ∙ ap (λ (h : Kept). withSettings h factorySettings) (forget-kept (fifosCleared b) ∙ both-clear-kept b (u .whole));
+    }
+  where
+    still : (b : List ℕ) → Whole b → Whole (forgotten (fifosCleared b))
+    still b w = search words depth 12
+
+-- ---- the factory block, of n words so that none of them is computed
+
+zeros-read : (m i : ℕ) → getD (replicate {A = ℕ} m 0) i 0 ≡ 0
+zeros-read zero i = refl
+zeros-read (suc m) zero = refl
+zeros-read (suc m) (suc i) = zeros-read m i
+
+-- zeros behind a list read as if they were not there
+zeros-behind : (l : List ℕ) (m i : ℕ) → getD (l ++ replicate m 0) i 0 ≡ getD l i 0
+zeros-behind [] m i = zeros-read m i
+zeros-behind (x ∷ l) m zero = refl
+zeros-behind (x ∷ l) m (suc i) = zeros-behind l m i
+
+first-word : (n i : ℕ) → word (factoryOf n) i ≡ getD factorySettings i 0
+first-word n i = zeros-behind factorySettings (n - settings) i
+
+first-zero : (n i : ℕ) → settings ≤ i → word (factoryOf n) i ≡ 0
+first-zero n i h = first-word n i ∙ List·getD-eq-default factorySettings 0 h
+
+holds : (t : Bool) → T t → t ≡ true
+holds true h = refl
+holds false h = absurd h
+
+-- each word is in its range
+first-in : (n i : ℕ) → i < ranged → inRange i (word (factoryOf n) i) ≡ true
+unfolding leasts greatests
+first-in n i h =
+    rw (first-word n i)
+    (holds (inRange i (getD factorySettings i 0)) (at (λ j. inRange j (getD factorySettings j 0)) ranged tt i h))
+
+-- a FIFO whose numbers are no settings
+first-fifo : (p : Places) (n : ℕ) → settings ≤ p .level → settings ≤ p .accepted → settings ≤ p .taken → settings ≤ p .cleared
+    → fifo p (factoryOf n) ≡ noEntries
+first-fifo p n l a t c =
+    let none : fifo p (factoryOf n) .held ≡ [] = rw (first-zero n (p .level) l) (none-held (p .ring) (factoryOf n) _) in
+    λ i. record { held = none i; accepted = first-zero n (p .accepted) a i; taken = first-zero n (p .taken) t i; cleared = first-zero n (p .cleared) c i }
+
+pub first-holds : (n : ℕ) → n ≡ blockWords → Holds (factoryOf n) keptFirst
+first-holds n e =
+    record {
+      usable = usable-words long (first-in n) (rw (first-word n receiveLevel, first-word n receiveSize) zero-le);
+      is =
+          parts refl (first-fifo receivePlaces n (omega arith) (omega arith) (omega arith) (omega arith)) (first-word n receiveOverwritten)
+          (first-fifo transmitPlaces n (omega arith) (omega arith) (omega arith) (omega arith));
+    }
+  where
+    long : Whole (factoryOf n)
+    long = omega (arith, length-append factorySettings (replicate (n - settings) 0), length-replicate {A = ℕ} (n - settings) 0)

@@ -1,0 +1,23 @@
+-- `module::on_channel::accept` meets its contract: the counter and the block, from what the callees ensure.
+-- Assumes nothing.
+use Rattle.module.proofs.Accepted.{put-length}
+use Rattle.module.proofs.Accepted.{lent, accepted-is}
+use borrow.Author.Needs.{needs}
+use Rattle.module.proofs.on_channel.accept.Statement.{statement}
+use Rattle.module.proofs.on_channel.accept.Tie as tie
+
+on-block-requires : tie.Need-on-block-requires
+on-block-requires c κs = let start = c .before .before .before .before .before .before .before .before .before in let e = lent (start .args .mem .now) (start .args .channel) (c .before .before .before .counter-after .result) (start .pre .0 .low) (start .pre .0 .high) in (rw e (start .pre .1), rw e (start .pre .2), c .before .before .fault .ensures .1, c .before .fault2 .ensures .1)
+
+same-length : tie.Need-same-length
+same-length c = let start = c .before .before .before .before .before .before .before .before .before .before .before .before in put-length (start .args .mem .now) (c .before .before .on-block .last .0) (start .args .channel) (c .before .before .before .before .before .before .counter-after .result) (c .before .before .on-block .kept .0)
+
+returns : tie.Need-returns
+returns c = let start = c .before .before .before .before .before .before .before .before .before .before .before .before in accepted-is (start .args .mem .now) (start .args .channel) (start .args .call) _ _ _ (start .pre .0 .low) (start .pre .0 .high) (c .before .before .before .before .before .before .counter-after .ensures) (c .before .before .before .before .before .fault .ensures .0) (c .before .before .before .before .fault2 .ensures .0) _ _ (c .before .before .on-block .ensures .0) (c .before .before .on-block .ensures .1)
+
+pub accept-spec : {M : Type 1} → statement M
+accept-spec =
+    tie.close
+    (tie.spec (search needs) (search needs) (search needs) (search needs) (search needs) (search needs) (search needs) (λ c κs. search needs)
+    (λ c κs. search needs) (λ c κs. search needs) (search needs) (λ c. search needs) (search needs) (search needs) (search needs) (search needs)
+    (search needs) (search needs) (search needs) (search needs) (search needs) on-block-requires same-length returns)

@@ -1,0 +1,2 @@
+// Calls on a module's lent memory.
+pub mod on_channel;
