@@ -20,4 +20,4 @@ accept-spec =
     tie.close
     (tie.spec (search needs) (search needs) (search needs) (search needs) (search needs) (search needs) (search needs) (λ c κs. search needs)
     (λ c κs. search needs) (λ c κs. search needs) (search needs) (λ c. search needs) (search needs) (search needs) (search needs) (search needs)
-    (search needs) (search needs) (search needs) (search needs) (search needs) on-block-requires same-length returns)
+    (search needs) (search needs) (search needs) (λ c. search needs) (λ c. search needs) on-block-requires same-length returns)
