@@ -28,9 +28,9 @@ pub room : {m : List ℕ} {ch : ℕ} → Within m ch → Room m ch
 room w = let f = w .standing .frame in record { low = w .low; high = omega arith; part = omega arith; end = w .room }
 
 -- the part that is lent: a store into the module part leaves it
-pub lent : (m : List ℕ) (ch x : ℕ) → 1 ≤ ch → ch ≤ most
+pub lent : (m : List ℕ) (ch : ℕ) → 1 ≤ ch → ch ≤ most → (x : ℕ)
     → take (base ch + blockWords - base ch) (drop (base ch) (set m (counterAt ch) x)) ≡ block m ch
-lent m ch x l h = part-is (set m (counterAt ch) x) ch ∙ block-set m ch (counterAt ch) x (omega arith)
+lent m ch l h x = part-is (set m (counterAt ch) x) ch ∙ block-set m ch (counterAt ch) x (omega arith)
 
 module _ (m : List ℕ) (ch : ℕ) (k : ChannelCall) (next before after : ℕ) (l : 1 ≤ ch) (h : ch ≤ most)
     (p : next ≡ counterAfter k (word m (counterAt ch))) (q : before ≡ faulty (word m (counterAt ch)) (word m threshold))
@@ -49,10 +49,10 @@ module _ (m : List ℕ) (ch : ℕ) (k : ChannelCall) (next before after : ℕ) (
       × (putMid (base ch) (base ch + blockWords - base ch) (set m (counterAt ch) next) last ≡ acceptedAfter ch k m)
   unfolding given
   accepted-is r last e f = (
-    e ∙ ap₂ (λ (g : Given) (b : List ℕ). blockAnswer g k b) is (lent m ch next l h),
+    e ∙ ap₂ (λ (g : Given) (b : List ℕ). blockAnswer g k b) is (lent m ch l h next),
     put-is (set m (counterAt ch) next) ch last
         ∙ ap₂ (λ (x : ℕ) (b : List ℕ). withBlock (set m (counterAt ch) x) ch b) p
-        (f ∙ ap₂ (λ (g : Given) (b : List ℕ). blockAfter g k b) is (lent m ch next l h)),
+        (f ∙ ap₂ (λ (g : Given) (b : List ℕ). blockAfter g k b) is (lent m ch l h next)),
   )
 
 -- ---- a return after a refusal R was computed as r

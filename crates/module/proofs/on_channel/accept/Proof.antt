@@ -7,7 +7,13 @@ use Rattle.module.proofs.on_channel.accept.Statement.{statement}
 use Rattle.module.proofs.on_channel.accept.Tie as tie
 
 on-block-requires : tie.Need-on-block-requires
-on-block-requires c κs = let start = c .before .before .before .before .before .before .before .before .before in let e = lent (start .args .mem .now) (start .args .channel) (c .before .before .before .counter-after .result) (start .pre .0 .low) (start .pre .0 .high) in (rw e (start .pre .1), rw e (start .pre .2), c .before .before .fault .ensures .1, c .before .fault2 .ensures .1)
+on-block-requires c κs =
+    let start = c .before .before .before .before .before .before .before .before .before in
+    let m = start .args .mem .now in
+    let room = start .pre .0 in
+    (rw (lent m (start .args .channel) (room .low) (room .high)) (start .pre .1),
+    rw (lent m (start .args .channel) (room .low) (room .high)) (start .pre .2),
+    c .before .before .fault .ensures .1, c .before .fault2 .ensures .1)
 
 same-length : tie.Need-same-length
 same-length c = let start = c .before .before .before .before .before .before .before .before .before .before .before .before in put-length (start .args .mem .now) (c .before .before .on-block .last .0) (start .args .channel) (c .before .before .before .before .before .before .counter-after .result) (c .before .before .on-block .kept .0)
