@@ -5,6 +5,8 @@ use mathlib.Core.List.{flatten}
 use Rattle.word.specs.Word.{ones, reversed}
 use Rattle.word.specs.Parity.{oddParity, asSent, errorMark}
 use Rattle.word.specs.Gap.{clamped}
+use Rattle.block.specs.Status.{latchBit, latched}
+use Rattle.frame.specs.Counters.{sampled}
 use Rattle.ring.specs.Ring.{words, held}
 use Rattle.schedule.specs.Output.{values}
 use Rattle.schedule.specs.Schedule.{onward, gapStep, jumpStep, commandStep, stepped}
@@ -14,5 +16,5 @@ use Rattle.receive.specs.Entries.{stampOf, entryOf, mailed}
 use Rattle.marked_examples.specs.Marked.{receiving, received, marked, Right}
 
 pub right : Right
-unfolding Right marked receiving received flatten ones reversed oddParity asSent errorMark clamped words held values onward gapStep jumpStep commandStep stepped filtered arrival stored stampOf entryOf mailed
+unfolding Right marked sampled latchBit latched receiving received flatten ones reversed oddParity asSent errorMark clamped words held values onward gapStep jumpStep commandStep stepped filtered arrival stored stampOf entryOf mailed
 right = refl

@@ -1,5 +1,5 @@
 -- Paper 01, "Marked examples": those marked P.
-use Prim.Native.Nat.{ℕ}
+use Prim.Native.Nat.{ℕ, zero, suc, _*_}
 use mathlib.Core.Path.{_≡_}
 use mathlib.Core.List.{List, [], _∷_, _++_, map, flatten}
 use lib.ListN.{set}
@@ -9,6 +9,8 @@ use Rattle.word.specs.Gap.{clamped}
 use Rattle.block.specs.Layout.{word, receiver, matching, fifoKind, receiveSize, receiveAccepted, receiveOverwritten, blockWords}
 use Rattle.block.specs.Factory.{factoryOf}
 use Rattle.block.specs.Fifos.{receivePlaces, fifo}
+use Rattle.block.specs.Status.{faultWeight, faulty, latched}
+use Rattle.frame.specs.Counters.{sampled}
 use Rattle.schedule.specs.Codes.{running, code, messageAddress}
 use Rattle.schedule.specs.Output.{values}
 use Rattle.schedule.specs.Schedule.{stepped}
@@ -33,6 +35,17 @@ runs address waiting word = record { state = running; address = address; waiting
 abbrev pub sent : Outcome → List ℕ
 sent o = values (o .output) ++ (o .place .waiting ∷ [])
 
+-- a fault counter after n failing samples, and after a good one behind three failing; condition 6 at a threshold of 5, as its bit in a mask
+abbrev pub failures : ℕ → ℕ
+failures zero = 0
+failures (suc n) = sampled 1 (failures n)
+
+abbrev pub good : ℕ
+good = sampled 0 (failures 3)
+
+abbrev pub fault : ℕ → ℕ
+fault counter = faultWeight * faulty counter 5
+
 -- an example: its number, what the definitions give, and what the paper says
 pub record Example : Type 0 where
   pub number : ℕ
@@ -50,6 +63,13 @@ marked =
     ∷ record { number = 3; gives = received (arrived 0 0xB0 (arrived 0 0xA1 (receiving 0 0 1))); says = 0 ∷ 0xA1 ∷ 0 ∷ 1 ∷ 0 ∷ [] }
     -- "size 1, circular, A then B: B held, accepted 2, overwritten 1"
     ∷ record { number = 4; gives = received (arrived 0 0xB0 (arrived 0 0xA1 (receiving 0 1 1))); says = 0 ∷ 0xB0 ∷ 0 ∷ 2 ∷ 1 ∷ [] }
+    -- "threshold 5, three failures: 2, 4, 6, fault at the third; a good sample gives 5, no fault, latch stays"
+    ∷ record {
+      number = 5;
+      gives = (failures 1 ∷ failures 2 ∷ failures 3 ∷ fault (failures 2) ∷ fault (failures 3) ∷ [])
+          ++ (good ∷ fault good ∷ latched 0 0 (fault (failures 2)) (fault (failures 3)) ∷ latched faultWeight 0 (fault (failures 3)) (fault good) ∷ []);
+      says = 2 ∷ 4 ∷ 6 ∷ 0 ∷ 64 ∷ 5 ∷ 0 ∷ 64 ∷ 64 ∷ [];
+    }
     -- "gap 39 with async waiting: 39 null, still waiting"
     ∷ record { number = 6; gives = sent (stepped (runs 9 1 0xA1) 1 0x2000 39); says = 3 ∷ 39 ∷ 0 ∷ 0 ∷ 1 ∷ [] }
     -- "gap 40: 4, word, 4"

@@ -1,0 +1,84 @@
+// Power-up: fills the module part and the blocks of the asked channels.
+use block::layout::WORDS;
+use frame::layout::COUNT;
+use frame::layout::COUNTERS;
+use frame::layout::MODULE_WORDS;
+use frame::layout::MOST;
+use frame::layout::RESOLUTION;
+use frame::layout::STAMP;
+use frame::layout::THRESHOLD;
+use frame::layout::need;
+ghost use mathlib.Core.Path.{_≡_};
+ghost use mathlib.Core.List.{_++_};
+ghost use Prim.Native.Nat.{_≤_};
+ghost use lib.ListN.{length, take, drop};
+ghost use Rattle.block.specs.Layout.{blockWords};
+ghost use Rattle.block.specs.Factory.{factoryOf};
+ghost use Rattle.frame.specs.Layout.{moduleWords, need, withBlock};
+ghost use Rattle.power.specs.Power.{factoryPart, factoryBlocks, powerRefusal, powerAfter};
+
+// The fault threshold at power-up.
+const FACTORY_THRESHOLD: u32 = 5;
+
+// Fills the module part as power-up leaves it.
+fn fill_part(mem: &mut [u32], count: u32)
+    requires { ⌜ moduleWords ≤ length (now mem) ⌝ }
+    ensures { λ r. ⌜ now (mem .exit) ≡ factoryPart count ++ drop moduleWords (now (mem .entry)) ⌝ }
+{
+    mem[COUNT] = count;
+    mem[STAMP] = 0;
+    mem[RESOLUTION] = 0;
+    mem[THRESHOLD] = FACTORY_THRESHOLD;
+    mem[COUNTERS] = 0;
+    mem[COUNTERS + 1] = 0;
+    mem[COUNTERS + 2] = 0;
+    mem[COUNTERS + 3] = 0;
+    mem[COUNTERS + 4] = 0;
+    mem[COUNTERS + 5] = 0;
+    mem[COUNTERS + 6] = 0;
+    mem[COUNTERS + 7] = 0;
+    mem[COUNTERS + 8] = 0;
+    mem[COUNTERS + 9] = 0;
+    mem[COUNTERS + 10] = 0;
+    mem[COUNTERS + 11] = 0;
+}
+
+// Fills a channel's block as power-up leaves it.
+fn fill_channel(mem: &mut [u32], channel: u32)
+    requires { ⌜ (1 ≤ channel) × (need channel ≤ length (now mem)) ⌝ }
+    ensures { λ r. ⌜ now (mem .exit) ≡ withBlock (now (mem .entry)) channel (factoryOf blockWords) ⌝ }
+{
+    let from = MODULE_WORDS + ((channel - 1) as usize) * WORDS;
+    let to = from + WORDS;
+    block::factory::fill(&mut mem[from..to]);
+}
+
+// Fills the blocks of the channels 1 to `count`.
+fn fill_channels(mem: &mut [u32], count: u32)
+    requires { ⌜ need count ≤ length (now mem) ⌝ }
+    ensures { λ r. ⌜ now (mem .exit) ≡ take moduleWords (now (mem .entry)) ++ (factoryBlocks count ++ drop (need count) (now (mem .entry))) ⌝ }
+{
+    let mut channel = 0;
+    while channel < count {
+        channel += 1;
+        fill_channel(mem, channel);
+    }
+}
+
+// Powers a module of `count` channels up; answers the refusal's number, or 0 for done.
+pub fn power_up(mem: &mut [u32], count: u32) -> u32
+    ensures { λ r. ⌜ (r ≡ powerRefusal count (length (now (mem .entry)))) × (now (mem .exit) ≡ powerAfter count (now (mem .entry))) ⌝ }
+{
+    if count < 1 {
+        return 4;
+    }
+    if MOST < count {
+        return 4;
+    }
+    if mem.len() < need(count) {
+        return 1;
+    }
+    fill_channels(mem, count);
+    fill_part(mem, count);
+    0
+}
