@@ -1,1 +1,2 @@
 pub mod OnChannel
+pub mod Perform

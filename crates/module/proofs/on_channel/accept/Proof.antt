@@ -10,10 +10,12 @@ on-block-requires : tie.Need-on-block-requires
 on-block-requires c κs =
     let start = c .before .before .before .before .before .before .before .before .before in
     let m = start .args .mem .now in
-    let room = start .pre .0 in
-    (rw (lent m (start .args .channel) (room .low) (room .high)) (start .pre .1),
-    rw (lent m (start .args .channel) (room .low) (room .high)) (start .pre .2),
-    c .before .before .fault .ensures .1, c .before .fault2 .ensures .1)
+    let room = start .pre .0 in (
+      rw (lent m (start .args .channel) (room .low) (room .high)) (start .pre .1),
+      rw (lent m (start .args .channel) (room .low) (room .high)) (start .pre .2),
+      c .before .before .fault .ensures .1,
+      c .before .fault2 .ensures .1,
+    )
 
 same-length : tie.Need-same-length
 same-length c = let start = c .before .before .before .before .before .before .before .before .before .before .before .before in put-length (start .args .mem .now) (c .before .before .on-block .last .0) (start .args .channel) (c .before .before .before .before .before .before .counter-after .result) (c .before .before .on-block .kept .0)

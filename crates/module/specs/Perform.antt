@@ -1,0 +1,50 @@
+-- Every call on a module's memory: what it answers and what it leaves (paper 01).
+use Prim.Native.Nat.{ℕ}
+use mathlib.Core.List.{List}
+use mathlib.Core.Bool.{Bool, true, false, cond}
+use lib.ListN.{length}
+use Rattle.channel.specs.Answers.{channelValues, numbersOf}
+use Rattle.channel.specs.declared.calls.Answer.{Answer}
+use Rattle.channel.specs.declared.calls.Answer.the-variants.{Done}
+use Rattle.power.specs.Power.{powerRefusal, powerAfter}
+use Rattle.wide.specs.Refusals.{callRefusal}
+use Rattle.wide.specs.OnModule.{wideAnswer, wideAfter}
+use Rattle.wide.specs.declared.calls.WideCall.{WideCall}
+use Rattle.wide.specs.declared.calls.WideCall.the-variants.{AdvanceStamp, ZeroStamp, ReadStamp, WriteResolution, ReadResolution, WriteThreshold, ReadThreshold}
+use Rattle.module.specs.OnChannel.{answerUnless, leaveUnless, onAnswer, onAfter}
+use Rattle.module.specs.declared.calls.Call.{Call}
+use Rattle.module.specs.declared.calls.Call.the-variants.{PowerUp, Wide, On}
+
+abbrev pub powerAnswer : ℕ → List ℕ → Answer
+powerAnswer k m = answerUnless (powerRefusal k (length m)) Done
+
+-- the answer of a call on a memory
+abbrev pub answer : Call → List ℕ → Answer
+answer (PowerUp k) m = powerAnswer k m
+answer (Wide k) m = answerUnless (callRefusal k m) (wideAnswer k m)
+answer (On ch k) m = onAnswer ch k m
+
+-- the memory after a call
+abbrev pub after : Call → List ℕ → List ℕ
+after (PowerUp k) m = powerAfter k m
+after (Wide k) m = leaveUnless (callRefusal k m) (wideAfter k m) m
+after (On ch k) m = onAfter ch k m
+
+-- how many values a call answers beside the number
+abbrev pub wideValues : WideCall → ℕ
+wideValues (AdvanceStamp n) = 0
+wideValues ZeroStamp = 0
+wideValues ReadStamp = 1
+wideValues (WriteResolution x) = 0
+wideValues ReadResolution = 1
+wideValues (WriteThreshold x) = 0
+wideValues ReadThreshold = 1
+
+abbrev pub values : Call → ℕ
+values (PowerUp k) = 0
+values (Wide k) = wideValues k
+values (On ch k) = channelValues k
+
+-- the paper's number and values of an answer: "A refusal .. every other result is 0"
+abbrev pub numbers : Call → Answer → List ℕ
+numbers c a = numbersOf (values c) a

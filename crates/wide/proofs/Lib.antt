@@ -1,0 +1,4 @@
+pub mod Sound
+pub mod Laws
+pub mod Stored
+pub mod Called

@@ -1,0 +1,30 @@
+-- `wide::on_module::on_module` meets its contract: refused for the memory, refused for the argument, or done.
+-- Assumes nothing.
+use Rattle.wide.proofs.Called.{by-call}
+use mathlib.Core.Path.{sym, _∙_}
+use Rattle.word.proofs.Branches.{branches}
+use Rattle.frame.proofs.Refused.{wide, standing}
+use Rattle.wide.specs.Refusals.{callRefusal}
+use borrow.Author.Needs.{needs}
+use Rattle.wide.proofs.on_module.on_module.Statement.{statement}
+use Rattle.wide.proofs.on_module.on_module.Tie as tie
+
+returns : tie.Need-returns
+unfolding callRefusal
+returns c = search (branches, ← c .before .wide-refusal .ensures, c .if1 .taken)
+
+returns-2 : tie.Need-returns-2
+returns-2 c = let start = c .before .before .before .before .before .before in let q = by-call (start .args .call) (start .args .mem .now) _ (sym (c .before .before .before .wide-refusal .ensures) ∙ c .before .before .if1 .left) (c .before .call-refusal .ensures) in search (branches, ← q, c .if2 .taken)
+
+accept-requires : tie.Need-accept-requires
+accept-requires c κs = standing _ (wide _ (sym (c .before .before .before .before .wide-refusal .ensures) ∙ c .before .before .before .if1 .left) .0) .frame
+
+returns-3 : tie.Need-returns-3
+unfolding callRefusal
+returns-3 c = search (branches, ← c .before .before .before .before .before .before .before .wide-refusal .ensures, ← c .before .before .before .before .before .call-refusal .ensures, c .before .before .before .before .before .before .if1 .left, c .before .before .before .before .if2 .left, c .before .before .accept .ensures)
+
+pub on-module-spec : {M : Type 1} → statement M
+on-module-spec =
+    tie.close
+    (tie.spec (λ c κs. search needs) (λ c. search needs) returns (λ c κs. search needs) (λ c. search needs) returns-2 accept-requires
+    (λ c. search needs) returns-3)
