@@ -10,7 +10,10 @@ use Rattle.block.specs.Layout.{word, receiver, matching, fifoKind, receiveSize,
 use Rattle.block.specs.Factory.{factoryOf}
 use Rattle.block.specs.Fifos.{receivePlaces, fifo}
 use Rattle.block.specs.Status.{faultWeight, faulty, latched}
+use Rattle.frame.specs.Layout.{stamp}
 use Rattle.frame.specs.Counters.{sampled}
+use Rattle.wide.specs.OnModule.{wideStored}
+use Rattle.wide.specs.declared.calls.WideCall.the-variants.{AdvanceStamp}
 use Rattle.schedule.specs.Codes.{running, code, messageAddress}
 use Rattle.schedule.specs.Output.{values}
 use Rattle.schedule.specs.Schedule.{stepped}
@@ -76,6 +79,8 @@ marked =
     ∷ record { number = 7; gives = sent (stepped (runs 9 1 0xA1) 1 0x2000 40); says = 4 ∷ 4 ∷ 0xA1 ∷ 4 ∷ 0 ∷ [] }
     -- "gap 3: 4"
     ∷ record { number = 8; gives = clamped 3 ∷ []; says = 4 ∷ [] }
+    -- "stamp 0xFFFFFFFF advanced by 2 is 1"
+    ∷ record { number = 9; gives = word (wideStored (AdvanceStamp 2) (1 ∷ 0xFFFFFFFF ∷ [])) stamp ∷ []; says = 1 ∷ [] }
     -- "receiver and match on, empty set: filtered"
     ∷ record { number = 10; gives = outcome (arrival 0xA1 (receiving 1 0 255)) ∷ []; says = 1 ∷ [] }
     -- "command 0x1F05 is message 5; 0x7000 and 0x6100 are reserved"
