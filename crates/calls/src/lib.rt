@@ -1,4 +1,5 @@
 // Calls as items of four words, and their answers as lists of numbers.
 pub mod answers;
 pub mod items;
+pub mod perform;
 pub mod values;

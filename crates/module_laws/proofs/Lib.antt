@@ -1,0 +1,6 @@
+pub mod Rolls
+pub mod Sane
+pub mod Stores
+pub mod OnChannel
+pub mod Power
+pub mod OnModule

@@ -1,0 +1,103 @@
+-- What an accepted module-wide call leaves of the module's memory.
+-- Assumes nothing.
+use Prim.Native.Nat.{ℕ, zero, suc, _+_, _%_, _^_, _≤_, _<_, zero-le}
+use mathlib.Core.Path.{_≡_, refl, ap, _∙_}
+use mathlib.Core.List.{List}
+use native.Mathlib.Omega.{arith}
+use borrow.Author.Tests.{ltb-false}
+use lib.Dec.{ltb}
+use lib.ListN.{getD, set}
+use Rattle.block.specs.Layout.{word, latch}
+use Rattle.block.proofs.Sound.{is-within}
+use Rattle.block.proofs.Keeps.{rule-keeps}
+use Rattle.channel_laws.specs.Kept.{keptOf}
+use Rattle.channel_laws.proofs.Holds.{store-kept}
+use Rattle.frame.specs.Layout.{count, stamp, resolution, threshold, moduleWords, block}
+use Rattle.frame.specs.Refusals.{partLeasts, partGreatests, wideRefusal}
+use Rattle.frame.proofs.Refused.{past, through}
+use Rattle.frame.proofs.Blocks.{block-set}
+use Rattle.wide.specs.Refusals.{rangeRefusal, wideCallRefusal, callRefusal}
+use Rattle.wide.specs.Rule.{ruledOn, ruledTo, ruledAll}
+use Rattle.wide.specs.OnModule.{wideStored, wideAfter}
+use Rattle.wide.proofs.Laws.{ruled-word, ruled-block}
+use Rattle.wide.proofs.Stored.{count-kept}
+use Rattle.wide.specs.declared.calls.WideCall.{WideCall}
+use Rattle.wide.specs.declared.calls.WideCall.the-variants.{AdvanceStamp, ZeroStamp, ReadStamp, WriteResolution, ReadResolution, WriteThreshold, ReadThreshold}
+use Rattle.module_laws.specs.Sane.{Sane}
+use Rattle.module_laws.proofs.Stores.{inPart, store-sane, with-sane}
+
+-- the rule on the first n channels
+ruled-sane : {m : List ℕ} → Sane m → (old n : ℕ) → n ≤ word m count → Sane (ruledTo old n m)
+unfolding ruledTo ruledOn
+ruled-sane s old zero h = s
+ruled-sane {m} s old (suc n) h =
+    let t = ruled-sane s old n (omega arith) in
+    let c : suc n ≤ word (ruledTo old n m) count = rw (ruled-word old m (s .frame) n count (omega arith) (omega arith)) h in
+    with-sane t (suc n) _ (omega arith) c (rule-keeps (t .usable (suc n) (omega arith) c) _ _)
+
+-- what a call leaves of memory m, where x is m with the call's word stored
+record Left (m x m′ : List ℕ) : Type 0 where
+  sane : Sane m′
+  channels : word m′ count ≡ word m count
+  stamped : word m′ stamp ≡ word x stamp
+  kept : (ch : ℕ) → 1 ≤ ch → ch ≤ word m count → keptOf (block m′ ch) ≡ keptOf (block m ch)
+
+reads : {m : List ℕ} → Sane m → Left m m m
+reads s = record { sane = s; channels = refl; stamped = refl; kept = λ ch l h. refl }
+
+writes : {m : List ℕ} → Sane m → (i v : ℕ) → count < i → i < moduleWords → inPart i v → Left m (set m i v) (ruledAll m (set m i v))
+writes {m} s i v l h r =
+    record {
+      sane = ruled-sane t (word m threshold) (word m count) c;
+      channels = ruled-word _ x (t .frame) (word m count) count c (omega arith) ∙ count-kept m i v l;
+      stamped = ruled-word _ x (t .frame) (word m count) stamp c (omega arith);
+      kept =
+          λ ch p q. ap keptOf (ruled-block _ x (t .frame) (word m count) ch p q c) ∙ store-kept (block x ch) latch _ (omega arith)
+          ∙ ap keptOf (block-set m ch i v (omega arith));
+    }
+  where
+    x : List ℕ
+    x = set m i v
+
+    t : Sane (set m i v)
+    t = store-sane s i v l h r
+
+    c : word m count ≤ word (set m i v) count
+    c = rw (count-kept m i v l) (omega arith)
+
+-- an argument that is not refused is in its range
+argument : (i least greatest v : ℕ) → least ≡ getD partLeasts i 0 → greatest ≡ getD partGreatests i 0 → rangeRefusal least greatest v ≡ 0 → inPart i v
+unfolding rangeRefusal
+argument i least greatest v p q e =
+    let a = past (ltb v least) 3 _ e in
+    let b = past (ltb greatest v) 3 _ (a .1) in
+    is-within partLeasts partGreatests i v (rw (← p) (ltb-false v least (a .0))) (rw (← q) (ltb-false greatest v (b .0)))
+
+left : (k : WideCall) {m : List ℕ} → Sane m → wideCallRefusal k ≡ 0 → Left m (wideStored k m) (wideAfter k m)
+unfolding partLeasts partGreatests
+left (AdvanceStamp n) {m} s e =
+    writes s stamp _ (omega arith) (omega arith)
+    (is-within partLeasts partGreatests stamp ((word m stamp + n) % 2 ^ 32) zero-le (omega arith))
+left ZeroStamp s e = writes s stamp 0 (omega arith) (omega arith) refl
+left ReadStamp s e = reads s
+left (WriteResolution v) s e = writes s resolution v (omega arith) (omega arith) (argument resolution 0 3 v refl refl e)
+left ReadResolution s e = reads s
+left (WriteThreshold v) s e = writes s threshold v (omega arith) (omega arith) (argument threshold 1 65535 v refl refl e)
+left ReadThreshold s e = reads s
+
+module _ {m : List ℕ} (s : Sane m) (k : WideCall) (e : callRefusal k m ≡ 0) where
+  accepted : Left m (wideStored k m) (wideAfter k m)
+  unfolding callRefusal
+  accepted = left k s (through (wideRefusal m) _ e .1)
+
+  pub wide-sane : Sane (wideAfter k m)
+  wide-sane = accepted .sane
+
+  pub wide-count : word (wideAfter k m) count ≡ word m count
+  wide-count = accepted .channels
+
+  pub wide-stamp : word (wideAfter k m) stamp ≡ word (wideStored k m) stamp
+  wide-stamp = accepted .stamped
+
+  pub wide-kept : (ch : ℕ) → 1 ≤ ch → ch ≤ word m count → keptOf (block (wideAfter k m) ch) ≡ keptOf (block m ch)
+  wide-kept = accepted .kept
