@@ -4,3 +4,4 @@ pub mod Stores
 pub mod OnChannel
 pub mod Power
 pub mod OnModule
+pub mod Lent

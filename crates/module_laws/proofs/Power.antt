@@ -25,7 +25,7 @@ holds true h = refl
 holds false h = absurd h
 
 -- each word of the factory's module part is in its range
-factory-in : (k i : ℕ) → 1 ≤ k → k ≤ most → i < moduleWords → inPart i (getD (factoryPart k) i 0)
+pub factory-in : (k i : ℕ) → 1 ≤ k → k ≤ most → i < moduleWords → inPart i (getD (factoryPart k) i 0)
 unfolding partLeasts partGreatests
 factory-in k zero l h q = is-within partLeasts partGreatests count k l h
 factory-in k (suc i) l h q =

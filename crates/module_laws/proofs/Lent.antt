@@ -1,0 +1,285 @@
+-- A call that is lent the first words of a sane memory: of the memory l ++ r it is lent l.
+-- Assumes nothing.
+use Prim.Native.Nat.{ℕ, zero, suc, _+_, _-_, _%_, _^_, _≤_, _<_}
+use mathlib.Core.Path.{_≡_, refl, sym, ap, _∙_, subst}
+use mathlib.Core.Bool.{Bool, true, false, cond}
+use mathlib.Core.List.{List, _++_}
+use native.Mathlib.Omega.{arith}
+use borrow.Author.Tests.{eqb-true, ne-eqb, ltb-false, le-ltb, lt-ltb}
+use lib.Dec.{eqb, ltb}
+use lib.ListN.{length, set, length-set, length-append, List·getD-append}
+use lib.Seq.{set-append-left}
+use Rattle.block.specs.Layout.{word, blockWords}
+use Rattle.block.specs.Ranges.{Usable}
+use Rattle.block.proofs.Sound.{each-in}
+use Rattle.channel.specs.Refusals.{channelRefusal}
+use Rattle.channel.specs.Channel.{blockAnswer, blockAfter}
+use Rattle.channel.specs.declared.calls.Answer.{Answer}
+use Rattle.channel.specs.declared.calls.Answer.the-variants.{Done, Refused, Value}
+use Rattle.channel.specs.declared.calls.ChannelCall.{ChannelCall}
+use Rattle.channel_laws.specs.Kept.{keptOf, keptFirst}
+use Rattle.channel_laws.proofs.Resets.{first-holds}
+use Rattle.frame.specs.Layout.{count, stamp, resolution, threshold, counters, moduleWords, most, need, base, block, withBlock, Framed}
+use Rattle.frame.specs.Refusals.{frameOf, frameRefusal, partLeasts, partGreatests, partRefusal, channelOf, wideRefusal}
+use Rattle.frame.proofs.Parts.{part-front, splice-front}
+use Rattle.frame.proofs.Blocks.{Within, channel-room}
+use Rattle.power.specs.Power.{powerRefusal, powered}
+use Rattle.power.proofs.Laws.{power-framed, powered-length, powered-word-front, powered-block-front}
+use Rattle.wide.specs.Refusals.{callRefusal}
+use Rattle.wide.specs.Rule.{ruledOn, ruledTo, ruledAll}
+use Rattle.wide.specs.OnModule.{wideAnswer, wideAfter}
+use Rattle.wide.specs.declared.calls.WideCall.{WideCall}
+use Rattle.wide.specs.declared.calls.WideCall.the-variants.{AdvanceStamp, ZeroStamp, ReadStamp, WriteResolution, ReadResolution, WriteThreshold, ReadThreshold}
+use Rattle.wide.proofs.Laws.{ruled-length}
+use Rattle.wide.proofs.Stored.{count-kept, stored-framed}
+use Rattle.module.specs.OnChannel.{answerUnless, leaveUnless, onRefusal, counterAt, givenOf, acceptedAfter}
+use Rattle.module.specs.Perform.{answer, after}
+use Rattle.module.specs.declared.calls.Call.{Call}
+use Rattle.module.specs.declared.calls.Call.the-variants.{PowerUp, Wide, On}
+use Rattle.module_laws.specs.Sane.{Sane}
+use Rattle.module_laws.proofs.Sane.{sane-part, sane-wide}
+use Rattle.module_laws.proofs.Stores.{part-in}
+use Rattle.module_laws.proofs.OnChannel.{on-within}
+use Rattle.module_laws.proofs.Power.{factory-in}
+
+-- ---- what stands in the first words
+
+word-front : (l r : List ℕ) (i : ℕ) → i < length l → word l i ≡ word (l ++ r) i
+word-front l r i h = sym (List·getD-append l r 0 i h)
+
+block-front : (l r : List ℕ) (ch : ℕ) → base ch + blockWords ≤ length l → block l ch ≡ block (l ++ r) ch
+unfolding block
+block-front l r ch h = sym (part-front (base ch) blockWords l r h)
+
+with-front : (l r b : List ℕ) (ch : ℕ) → base ch + blockWords ≤ length l → withBlock l ch b ++ r ≡ withBlock (l ++ r) ch b
+unfolding withBlock
+with-front l r b ch h = sym (splice-front (base ch) blockWords l r h b)
+
+-- enough words are lent: they are a sane memory themselves, with the same module part and the same blocks
+pub record Front (l r : List ℕ) : Type 0 where
+  pub whole : Sane (l ++ r)
+  pub sane : Sane l
+  pub words : (i : ℕ) → i < moduleWords → word l i ≡ word (l ++ r) i
+  pub blocks : (ch : ℕ) → 1 ≤ ch → ch ≤ word (l ++ r) count → block l ch ≡ block (l ++ r) ch
+
+pub front : (l r : List ℕ) → Sane (l ++ r) → need (word (l ++ r) count) ≤ length l → Front l r
+front l r s h =
+    record {
+      whole = s;
+      sane =
+          record {
+            frame = rw (same count (omega arith)) framed;
+            part = each-in partLeasts partGreatests l moduleWords (λ i q. rw (same i q) (part-in s i q));
+            usable =
+                λ ch p q. let q′ : ch ≤ word (l ++ r) count = rw (same count (omega arith)) at q in
+                subst Usable (sym (alike ch p q′)) (s .usable ch p q′);
+          };
+      words = same;
+      blocks = alike;
+    }
+  where
+    framed : Framed (length l) (word (l ++ r) count)
+    framed = record { low = s .frame .low; high = s .frame .high; room = h }
+
+    same : (i : ℕ) → i < moduleWords → word l i ≡ word (l ++ r) i
+    same i q = word-front l r i (omega arith)
+
+    alike : (ch : ℕ) → 1 ≤ ch → ch ≤ word (l ++ r) count → block l ch ≡ block (l ++ r) ch
+    alike ch p q = block-front l r ch (channel-room (length l) (word (l ++ r) count) ch framed p q)
+
+-- a call answers and leaves on the lent words what it does on the whole memory
+pub record Alike (c : Call) (l r : List ℕ) : Type 0 where
+  pub answers : answer c l ≡ answer c (l ++ r)
+  pub leaves : after c l ++ r ≡ after c (l ++ r)
+
+-- the same refusal, and the same where it is 0
+answer-by : {x y : ℕ} (a b : Answer) → x ≡ y → (x ≡ 0 → a ≡ b) → answerUnless x a ≡ answerUnless y b
+answer-by {x} {y} a b e h = go (eqb x 0) refl ∙ ap (λ (n : ℕ). answerUnless n b) e
+  where
+    go : (t : Bool) → eqb x 0 ≡ t → cond t a (Refused x) ≡ cond t b (Refused x)
+    go true p = h (eqb-true x 0 p)
+    go false p = refl
+
+leave-by : {x y : ℕ} (l r p q : List ℕ) → x ≡ y → (x ≡ 0 → p ++ r ≡ q) → leaveUnless x p l ++ r ≡ leaveUnless y q (l ++ r)
+leave-by {x} {y} l r p q e h = go (eqb x 0) refl ∙ ap (λ (n : ℕ). leaveUnless n q (l ++ r)) e
+  where
+    go : (t : Bool) → eqb x 0 ≡ t → cond t p l ++ r ≡ cond t q (l ++ r)
+    go true z = h (eqb-true x 0 z)
+    go false z = refl
+
+-- ---- enough words, a call on a channel
+
+-- on a sane memory the channel's number decides, then the call
+sane-on : {m : List ℕ} → Sane m → (ch : ℕ) (k : ChannelCall) (t u : Bool) → ltb ch 1 ≡ t → ltb (word m count) ch ≡ u
+    → onRefusal ch k m ≡ cond t 3 (cond u 3 (channelRefusal k (block m ch)))
+unfolding onRefusal channelOf
+sane-on s ch k true u p q = rw (sane-part s, p) refl
+sane-on s ch k false true p q = rw (sane-part s, p, q) refl
+sane-on {m} s ch k false false p q =
+    rw (sane-part s, p, q, s .usable ch (ltb-false ch 1 p) (ltb-false (word m count) ch q) .sound) refl
+
+module _ {l r : List ℕ} (f : Front l r) (ch : ℕ) (k : ChannelCall) where
+  same-count : word l count ≡ word (l ++ r) count
+  same-count = f .words count (omega arith)
+
+  refusal-same : onRefusal ch k l ≡ onRefusal ch k (l ++ r)
+  refusal-same = go (ltb ch 1) (ltb (word (l ++ r) count) ch) refl refl
+    where
+      here : (t u : Bool) → ltb ch 1 ≡ t → ltb (word (l ++ r) count) ch ≡ u
+          → cond t 3 (cond u 3 (channelRefusal k (block l ch))) ≡ cond t 3 (cond u 3 (channelRefusal k (block (l ++ r) ch)))
+      here true u p q = refl
+      here false true p q = refl
+      here false false p q = ap (channelRefusal k) (f .blocks ch (ltb-false ch 1 p) (ltb-false (word (l ++ r) count) ch q))
+
+      go : (t u : Bool) → ltb ch 1 ≡ t → ltb (word (l ++ r) count) ch ≡ u → onRefusal ch k l ≡ onRefusal ch k (l ++ r)
+      go t u p q =
+          sane-on (f .sane) ch k t u p (ap (λ (n : ℕ). ltb n ch) same-count ∙ q) ∙ here t u p q ∙ sym (sane-on (f .whole) ch k t u p q)
+
+  module _ (e : onRefusal ch k l ≡ 0) where
+    in-front : Within l ch
+    in-front = on-within ch k l e
+
+    in-part : counterAt ch < moduleWords
+    in-part = let w = in-front in omega (arith, w .low, w .high, w .standing .frame .high)
+
+    same-block : block l ch ≡ block (l ++ r) ch
+    same-block = f .blocks ch (in-front .low) (rw same-count at (in-front .high))
+
+    accepted-answer : blockAnswer (givenOf ch k l) k (block l ch) ≡ blockAnswer (givenOf ch k (l ++ r)) k (block (l ++ r) ch)
+    accepted-answer =
+        rw (f .words stamp (omega arith), f .words threshold (omega arith), f .words (counterAt ch) in-part, same-block) refl
+
+    accepted-after : acceptedAfter ch k l ++ r ≡ acceptedAfter ch k (l ++ r)
+    accepted-after =
+        with-front (set l (counterAt ch) _) r _ ch (rw length-set (in-front .room))
+        ∙ ap (λ (m : List ℕ). withBlock m ch (blockAfter (givenOf ch k l) k (block l ch))) (sym (set-append-left l r (counterAt ch) _ (omega (arith, in-part, f .sane .frame))))
+        ∙ rw (f .words stamp (omega arith), f .words threshold (omega arith), f .words (counterAt ch) in-part, same-block) refl
+
+  pub front-on : Alike (On ch k) l r
+  front-on = record { answers = answer-by _ _ refusal-same accepted-answer; leaves = leave-by l r _ _ refusal-same accepted-after }
+
+-- ---- enough words, a module-wide call
+
+-- the rule on one channel, and on the first n
+rule-front : (l r : List ℕ) (old ch : ℕ) → 1 ≤ ch → ch ≤ most → base ch + blockWords ≤ length l → ruledOn old ch l ++ r ≡ ruledOn old ch (l ++ r)
+unfolding ruledOn
+rule-front l r old ch p q room =
+    with-front l r _ ch room
+    ∙ rw (word-front l r (counters + (ch - 1)) (omega arith), word-front l r threshold (omega arith), block-front l r ch room) refl
+
+rules-front : (l r : List ℕ) → Framed (length l) (word l count) → (old n : ℕ) → n ≤ word l count → ruledTo old n l ++ r ≡ ruledTo old n (l ++ r)
+unfolding ruledTo
+rules-front l r f old zero h = refl
+rules-front l r f old (suc n) h =
+    let room : base (suc n) + blockWords ≤ length (ruledTo old n l) = rw (ruled-length old l f n (omega arith)) (channel-room (length l) (word l count) (suc n) f (omega arith) h) in
+    rule-front (ruledTo old n l) r old (suc n) (omega arith) (omega (arith, f .high)) room
+    ∙ ap (ruledOn old (suc n)) (rules-front l r f old n (omega arith))
+
+module _ {l r : List ℕ} (f : Front l r) where
+  write-front : (i v v′ : ℕ) → count < i → i < moduleWords → v ≡ v′ → ruledAll l (set l i v) ++ r ≡ ruledAll (l ++ r) (set (l ++ r) i v′)
+  write-front i v v′ p q e =
+      rules-front (set l i v) r (stored-framed l i v p (f .sane .frame)) (word l threshold) (word l count) (rw (count-kept l i v p) (omega arith))
+      ∙ rw (← e, set-append-left l r i v (omega (arith, f .sane .frame)), f .words threshold (omega arith), f .words count (omega arith)) refl
+
+  wide-answers : (k : WideCall) → wideAnswer k l ≡ wideAnswer k (l ++ r)
+  wide-answers (AdvanceStamp n) = refl
+  wide-answers ZeroStamp = refl
+  wide-answers ReadStamp = ap Value (f .words stamp (omega arith))
+  wide-answers (WriteResolution x) = refl
+  wide-answers ReadResolution = ap Value (f .words resolution (omega arith))
+  wide-answers (WriteThreshold x) = refl
+  wide-answers ReadThreshold = ap Value (f .words threshold (omega arith))
+
+  wide-leaves : (k : WideCall) → wideAfter k l ++ r ≡ wideAfter k (l ++ r)
+  wide-leaves (AdvanceStamp n) =
+      write-front stamp _ _ (omega arith) (omega arith) (ap (λ (x : ℕ). (x + n) % 2 ^ 32) (f .words stamp (omega arith)))
+  wide-leaves ZeroStamp = write-front stamp 0 0 (omega arith) (omega arith) refl
+  wide-leaves ReadStamp = refl
+  wide-leaves (WriteResolution x) = write-front resolution x x (omega arith) (omega arith) refl
+  wide-leaves ReadResolution = refl
+  wide-leaves (WriteThreshold x) = write-front threshold x x (omega arith) (omega arith) refl
+  wide-leaves ReadThreshold = refl
+
+  wide-same : (k : WideCall) → callRefusal k l ≡ callRefusal k (l ++ r)
+  unfolding callRefusal
+  wide-same k = rw (sane-wide (f .sane), sane-wide (f .whole)) refl
+
+  pub front-wide : (k : WideCall) → Alike (Wide k) l r
+  front-wide k =
+      record {
+        answers = answer-by _ _ (wide-same k) (λ e. wide-answers k);
+        leaves = leave-by l r _ _ (wide-same k) (λ e. wide-leaves k);
+      }
+
+-- ---- too few words
+
+-- the call is refused as short and leaves what it was lent
+pub record Short (c : Call) (l : List ℕ) : Type 0 where
+  pub answers : answer c l ≡ Refused 1
+  pub leaves : after c l ≡ l
+
+frame-short : (n k k′ : ℕ) → 1 ≤ k → k ≤ most → n < need k → (moduleWords ≤ n → k′ ≡ k) → frameOf n k′ ≡ 1
+unfolding frameOf
+frame-short n k k′ low high less same = go (ltb n moduleWords) refl
+  where
+    go : (t : Bool) → ltb n moduleWords ≡ t → _≡_ {A = ℕ} (cond t 1 (cond (ltb k′ 1) 2 (cond (ltb most k′) 2 (cond (ltb n (need k′)) 1 0)))) 1
+    go true e = refl
+    go false e = rw (same (ltb-false n moduleWords e), le-ltb k 1 low, le-ltb most k high, lt-ltb n (need k) less) refl
+
+module _ (l r : List ℕ) (s : Sane (l ++ r)) (less : length l < need (word (l ++ r) count)) where
+  part-short : partRefusal l ≡ 1
+  unfolding partRefusal
+  part-short =
+      let e : frameRefusal l ≡ 1 = frame-short (length l) (word (l ++ r) count) (word l count) (s .frame .low) (s .frame .high) less (λ h. word-front l r count (omega arith)) in
+      rw e refl
+
+  on-short : (ch : ℕ) (k : ChannelCall) → onRefusal ch k l ≡ 1
+  unfolding onRefusal channelOf
+  on-short ch k = rw part-short refl
+
+  wide-short : (k : WideCall) → callRefusal k l ≡ 1
+  unfolding callRefusal wideRefusal
+  wide-short k = rw part-short refl
+
+  pub short-on : (ch : ℕ) (k : ChannelCall) → Short (On ch k) l
+  short-on ch k = record { answers = rw (on-short ch k) refl; leaves = rw (on-short ch k) refl }
+
+  pub short-wide : (k : WideCall) → Short (Wide k) l
+  short-wide k = record { answers = rw (wide-short k) refl; leaves = rw (wide-short k) refl }
+
+-- ---- a power-up goes by the number of lent words alone
+
+module _ (k : ℕ) (l : List ℕ) where
+  pub power-refused : (powerRefusal k (length l) ≡ 0 → ⊥) → (answer (PowerUp k) l ≡ Refused (powerRefusal k (length l))) × (after (PowerUp k) l ≡ l)
+  power-refused ne = rw (ne-eqb (powerRefusal k (length l)) 0 ne) (refl, refl)
+
+  module _ (e : powerRefusal k (length l) ≡ 0) where
+    pub power-done : answer (PowerUp k) l ≡ Done
+    power-done = rw e refl
+
+    pub power-leaves : after (PowerUp k) l ≡ powered k l
+    power-leaves = rw e refl
+
+-- the memory after it, with the words that were not lent
+module _ (k : ℕ) (l r : List ℕ) where
+  pub powered-count : word (powered k l ++ r) count ≡ k
+  powered-count = powered-word-front k count l r (omega arith)
+
+  pub powered-stamp : word (powered k l ++ r) stamp ≡ 0
+  powered-stamp = powered-word-front k stamp l r (omega arith)
+
+  pub powered-kept : (ch : ℕ) → 1 ≤ ch → ch ≤ k → keptOf (block (powered k l ++ r) ch) ≡ keptFirst
+  powered-kept ch p q = ap keptOf (powered-block-front k ch l r p q) ∙ first-holds blockWords refl .is
+
+  pub powered-sane : powerRefusal k (length l) ≡ 0 → Sane (powered k l ++ r)
+  powered-sane e =
+      record {
+        frame = rw powered-count (record { low = f .low; high = f .high; room = omega (arith, f .room, powered-length k l (f .room), length-append (powered k l) r) });
+        part =
+            each-in partLeasts partGreatests (powered k l ++ r) moduleWords
+            (λ i h. rw (powered-word-front k i l r h) (factory-in k i (f .low) (f .high) h));
+        usable = λ ch p q. subst Usable (sym (powered-block-front k ch l r p (rw powered-count at q))) (first-holds blockWords refl .usable);
+      }
+    where
+      f : Framed (length l) k
+      f = power-framed k (length l) e

@@ -1,0 +1,32 @@
+-- `replay::perform_all` meets its contract: each turn performs one item more.
+-- Assumes nothing.
+use native.Mathlib.Omega.{arith}
+use Rattle.replay.proofs.Items.{one-more, whole}
+use Prim.Native.Nat.{_≤_, _-_, _*_, _/_}
+use lib.ListN.{length}
+use mathlib.Core.Path.{_≡_}
+use Rattle.replay.specs.Replay.{performed}
+use borrow.Author.Needs.{needs}
+use Rattle.replay.proofs.perform_all.Statement.{statement}
+use Rattle.replay.proofs.perform_all.Tie as tie
+
+abbrev Inv-loop : tie.InvT-loop
+Inv-loop mem₀ bytes at₀ mem at = (at ≤ length bytes) × (length mem ≡ length mem₀) × (at ≡ 16 * (at / 16)) × (mem ≡ performed (at / 16) bytes mem₀)
+
+abbrev μ-loop : tie.MeasureT-loop
+μ-loop mem₀ bytes at₀ mem at = length bytes - at
+
+loop-again : tie.Need-loop-again Inv-loop μ-loop
+loop-again c = (search needs, search needs, omega (arith, c .before .before .before .before .before .loop .inv .2), one-more (c .before .before .before .before .before .loop .at) (c .before .before .before .before .before .before .before .before .args .bytes .now) (c .before .before .before .before .before .before .before .before .args .mem .now) (c .before .before .before .before .before .loop .mem) _ (c .before .before .before .before .before .loop .inv .2) (c .before .before .before .before .before .loop .inv .3) (c .before .before .perform-at .ensures))
+
+returns : tie.Need-returns Inv-loop μ-loop
+returns c = whole (c .before .before .before .before .loop .at) (c .before .before .before .before .before .before .before .args .bytes .now) (c .before .before .before .before .before .before .before .args .mem .now) (c .before .before .before .before .loop .mem) (c .before .before .before .before .loop .inv .0) (omega arith) (c .before .before .before .before .loop .inv .2) (c .before .before .before .before .loop .inv .3)
+
+returns-2 : tie.Need-returns-2 Inv-loop μ-loop
+returns-2 c = whole (c .before .before .loop .at) (c .before .before .before .before .before .args .bytes .now) (c .before .before .before .before .before .args .mem .now) (c .before .before .loop .mem) (c .before .before .loop .inv .0) (omega arith) (c .before .before .loop .inv .2) (c .before .before .loop .inv .3)
+
+pub perform-all-spec : {M : Type 1} → statement M
+perform-all-spec =
+    tie.close
+    (tie.spec Inv-loop μ-loop (search needs) (search needs) (λ c κs. search needs) (search needs) (search needs) loop-again (λ c κs. search needs)
+    (λ c κs. search needs) (λ c. search needs) returns (λ c. search needs) returns-2)
