@@ -1,0 +1,65 @@
+//! Where each number stands in the lent words (docs/MEMORY.md).
+
+/// Words of the module part.
+pub const MODULE_WORDS: usize = 16;
+/// Words of a channel's block.
+pub const BLOCK_WORDS: usize = 4666;
+/// The most channels a module has.
+pub const CHANNELS: u32 = 12;
+/// Slots of each FIFO ring.
+pub const SLOTS: usize = 255;
+
+// The module part.
+pub const COUNT: usize = 0;
+pub const STAMP: usize = 1;
+pub const RESOLUTION: usize = 2;
+pub const THRESHOLD: usize = 3;
+pub const COUNTERS: usize = 4;
+
+// A channel's block; words 0 to 11 are the settings, by number.
+pub const RECEIVER: usize = 0;
+pub const TRANSMITTER: usize = 1;
+pub const PARITY: usize = 2;
+pub const MATCH: usize = 3;
+pub const STAMPS: usize = 4;
+pub const RECEIVE_MODE: usize = 5;
+pub const FIFO_KIND: usize = 6;
+pub const TRANSMIT_MODE: usize = 7;
+pub const SIZE: usize = 8;
+pub const ALMOST_FULL: usize = 9;
+pub const ALMOST_EMPTY: usize = 10;
+pub const RATE: usize = 11;
+pub const RX_LEVEL: usize = 12;
+pub const RX_POSITION: usize = 13;
+pub const TX_LEVEL: usize = 14;
+pub const TX_POSITION: usize = 15;
+pub const STATE: usize = 16;
+pub const COMMAND: usize = 17;
+pub const ASYNC_MARK: usize = 18;
+pub const LATCH: usize = 19;
+pub const ENABLE: usize = 20;
+pub const LEVEL_MASK: usize = 21;
+pub const ASYNC_WORD: usize = 22;
+pub const RX_ACCEPTED: usize = 23;
+pub const RX_READ: usize = 24;
+pub const RX_CLEARED: usize = 25;
+pub const RX_OVERWRITTEN: usize = 26;
+pub const TX_ACCEPTED: usize = 27;
+pub const TX_SENT: usize = 28;
+pub const TX_CLEARED: usize = 29;
+pub const RX_RING: usize = 30;
+pub const TX_RING: usize = 795;
+pub const MAILBOXES: usize = 1050;
+pub const MATCH_SET: usize = 4122;
+pub const MESSAGE_RAM: usize = 4154;
+pub const SCHEDULE_RAM: usize = 4410;
+
+/// Words that a module of `count` channels needs.
+pub fn need(count: u32) -> usize {
+    MODULE_WORDS + count as usize * BLOCK_WORDS
+}
+
+/// First word of a channel's block; channels count from 1.
+pub fn block(channel: u32) -> usize {
+    MODULE_WORDS + (channel as usize - 1) * BLOCK_WORDS
+}

@@ -1,0 +1,255 @@
+//! The history of the description's "Fates": from the calls and their answers alone, nothing from memory.
+//!
+//! Entries of each FIFO stand in the order in which they were accepted; each has exactly one fate.
+
+use crate::calls::{Call, Item};
+use crate::layout::*;
+use crate::model::Model;
+
+#[derive(Clone, Copy, PartialEq, Eq, Debug)]
+pub enum Fate {
+    Held,
+    /// Read from the receive FIFO, or sent from the transmit FIFO.
+    Taken,
+    Cleared,
+    Overwritten,
+}
+
+/// One FIFO's history. Counts are whole numbers.
+#[derive(Clone, Debug)]
+pub struct Register<T> {
+    /// Entry number n, from 0, and its fate.
+    pub entries: Vec<(T, Fate)>,
+    /// Number of the oldest entry held; as many as there are entries where none is held.
+    oldest: usize,
+    pub taken: u64,
+    pub cleared: u64,
+    pub overwritten: u64,
+}
+
+impl<T: Copy + PartialEq + std::fmt::Debug> Register<T> {
+    fn new() -> Register<T> {
+        Register { entries: vec![], oldest: 0, taken: 0, cleared: 0, overwritten: 0 }
+    }
+
+    pub fn accepted(&self) -> u64 {
+        self.entries.len() as u64
+    }
+
+    pub fn held(&self) -> impl Iterator<Item = T> + '_ {
+        self.entries[self.oldest..].iter().map(|&(entry, _)| entry)
+    }
+
+    fn accept(&mut self, entry: T) {
+        self.entries.push((entry, Fate::Held));
+    }
+
+    /// Takes the oldest out. It is never asked for with none held.
+    fn remove(&mut self, fate: Fate) -> Result<T, String> {
+        let Some(place) = self.entries.get_mut(self.oldest) else {
+            return Err("the oldest is asked for with none held".to_string());
+        };
+        place.1 = fate;
+        let entry = place.0;
+        self.oldest += 1;
+        match fate {
+            Fate::Taken => self.taken += 1,
+            Fate::Overwritten => self.overwritten += 1,
+            _ => self.cleared += 1,
+        }
+        Ok(entry)
+    }
+
+    fn clear(&mut self) {
+        while self.oldest < self.entries.len() {
+            self.entries[self.oldest].1 = Fate::Cleared;
+            self.oldest += 1;
+            self.cleared += 1;
+        }
+    }
+
+    /// Every accepted entry has one fate, the counts are those of the fates, and those held are the last.
+    pub fn check(&self) -> Result<(), String> {
+        let of = |fate| self.entries.iter().filter(|&&(_, f)| f == fate).count() as u64;
+        let held = (self.entries.len() - self.oldest) as u64;
+        let right = of(Fate::Held) == held
+            && of(Fate::Taken) == self.taken
+            && of(Fate::Cleared) == self.cleared
+            && of(Fate::Overwritten) == self.overwritten
+            && self.accepted() == self.taken + self.cleared + self.overwritten + held
+            && self.entries[self.oldest..].iter().all(|&(_, fate)| fate == Fate::Held);
+        right.then_some(()).ok_or_else(|| "fates and counts disagree".to_string())
+    }
+}
+
+#[derive(Clone, Debug)]
+pub struct Book {
+    pub settings: [u32; 12],
+    pub receive: Register<[u32; 3]>,
+    pub transmit: Register<u32>,
+}
+
+const FACTORY: [u32; 12] = [0, 0, 1, 0, 0, 0, 0, 0, 255, 128, 32, 4];
+
+#[derive(Clone, Debug, Default)]
+pub struct Ledger {
+    pub stamp: u32,
+    pub resolution: u32,
+    pub threshold: u32,
+    pub channels: Vec<Book>,
+}
+
+impl Ledger {
+    /// Enters a call with its answer; an error where the answer cannot follow from the history.
+    pub fn enter(&mut self, item: Item, answer: &[u32]) -> Result<(), String> {
+        // Any refused call, and an item that is no call: nothing.
+        let (Some(call), Some(0)) = (Call::of(item), answer.first()) else {
+            return Ok(());
+        };
+        match call {
+            Call::PowerUp { count } => {
+                let book = Book { settings: FACTORY, receive: Register::new(), transmit: Register::new() };
+                *self = Ledger { stamp: 0, resolution: 0, threshold: 5, channels: vec![book; count as usize] };
+            }
+            Call::ModuleReset => {
+                (self.stamp, self.resolution, self.threshold) = (0, 0, 5);
+                for book in &mut self.channels {
+                    book.receive.clear();
+                    book.transmit.clear();
+                    book.settings = FACTORY;
+                }
+            }
+            Call::AdvanceStamp { ticks } => self.stamp = self.stamp.wrapping_add(ticks),
+            Call::ZeroStamp => self.stamp = 0,
+            Call::WriteResolution { value } => self.resolution = value,
+            Call::WriteThreshold { value } => self.threshold = value,
+            _ if call.is_module_wide() => {}
+            _ => {
+                let stamp = self.stamp;
+                let book = (self.channels)
+                    .get_mut((item.channel as usize).wrapping_sub(1))
+                    .ok_or("an accepted call on a channel that is not there")?;
+                book.enter(call, stamp, &answer[1..])?;
+            }
+        }
+        Ok(())
+    }
+
+    /// The history against the model: settings, stamp, held entries, counts modulo 2^32.
+    pub fn check_model(&self, model: &Model) -> Result<(), String> {
+        let part = model.part.as_ref().ok_or("the model's module part is unsound")?;
+        same("stamp", self.stamp, part.stamp)?;
+        same("resolution", self.resolution, part.resolution)?;
+        same("threshold", self.threshold, part.threshold)?;
+        same("channel count", self.channels.len(), model.channels.len())?;
+        for (book, channel) in self.channels.iter().zip(&model.channels) {
+            let channel = channel.as_ref().ok_or("a channel of the model is unsound")?;
+            let settings = std::array::from_fn(|setting| channel.settings.get(setting as u32));
+            same("settings", book.settings, settings)?;
+            let received = channel.receive.iter().map(|e| [e.status, e.word, e.stamp]);
+            if !book.receive.held().eq(received) {
+                return Err("entries held by the receive FIFO".to_string());
+            }
+            if !book.transmit.held().eq(channel.transmit.iter().copied()) {
+                return Err("words held by the transmit FIFO".to_string());
+            }
+            let c = &channel.counts;
+            let counts = [c.received, c.read, c.receive_cleared, c.overwritten, c.written, c.sent, c.transmit_cleared];
+            same("counts", book.counts(), counts)?;
+        }
+        Ok(())
+    }
+
+    /// The history against the lent words.
+    pub fn check_words(&self, mem: &[u32]) -> Result<(), String> {
+        same("channel count", self.channels.len() as u32, mem[COUNT])?;
+        same("stamp", self.stamp, mem[STAMP])?;
+        same("resolution", self.resolution, mem[RESOLUTION])?;
+        same("threshold", self.threshold, mem[THRESHOLD])?;
+        for (place, book) in self.channels.iter().enumerate() {
+            let ch = &mem[block(place as u32 + 1)..][..BLOCK_WORDS];
+            same("settings", &book.settings[..], &ch[..12])?;
+            same("counts", &book.counts()[..], &ch[RX_ACCEPTED..=TX_CLEARED])?;
+            same("receive level", book.receive.held().count(), ch[RX_LEVEL] as usize)?;
+            same("transmit level", book.transmit.held().count(), ch[TX_LEVEL] as usize)?;
+            for (k, entry) in book.receive.held().enumerate() {
+                let slot = RX_RING + 3 * ((ch[RX_POSITION] as usize + k) % SLOTS);
+                same("receive FIFO entry", &entry[..], &ch[slot..slot + 3])?;
+            }
+            for (k, word) in book.transmit.held().enumerate() {
+                same("transmit FIFO word", word, ch[TX_RING + (ch[TX_POSITION] as usize + k) % SLOTS])?;
+            }
+        }
+        Ok(())
+    }
+
+    /// Each entry has one fate.
+    pub fn check_fates(&self) -> Result<(), String> {
+        for book in &self.channels {
+            book.receive.check()?;
+            book.transmit.check()?;
+        }
+        Ok(())
+    }
+}
+
+fn same<T: PartialEq + std::fmt::Debug>(what: &str, history: T, seen: T) -> Result<(), String> {
+    if history == seen {
+        Ok(())
+    } else {
+        Err(format!("{what}: history {history:?}, seen {seen:?}"))
+    }
+}
+
+impl Book {
+    pub fn counts(&self) -> [u32; 7] {
+        let (r, t) = (&self.receive, &self.transmit);
+        [r.accepted(), r.taken, r.cleared, r.overwritten, t.accepted(), t.taken, t.cleared].map(|n| n as u32)
+    }
+
+    fn enter(&mut self, call: Call, stamp: u32, values: &[u32]) -> Result<(), String> {
+        match call {
+            Call::WriteSetting { setting, value } => {
+                let place = &mut self.settings[setting as usize];
+                let change = *place != value;
+                *place = value;
+                if setting as usize == RECEIVE_MODE && change {
+                    self.receive.clear();
+                }
+            }
+            Call::InitiatedTest { .. } => {
+                self.receive.clear();
+                self.transmit.clear();
+            }
+            Call::Arrival { word } => {
+                if values[0] == 4 {
+                    self.receive.remove(Fate::Overwritten)?;
+                }
+                if values[0] == 2 || values[0] == 4 {
+                    self.receive.accept(self.entry(word, stamp));
+                }
+            }
+            Call::ReadFifo => {
+                let entry = self.receive.remove(Fate::Taken)?;
+                same("receive FIFO read", &entry[..], values)?;
+            }
+            Call::WriteTransmitFifo { word } => self.transmit.accept(word),
+            Call::Step if values[0] == 1 => {
+                // The word as sent has the parity of its own: D31 aside.
+                let word = self.transmit.remove(Fate::Taken)?;
+                same("word sent, D31 aside", word << 1, values[1] << 1)?;
+            }
+            _ => {}
+        }
+        Ok(())
+    }
+
+    /// The entry of Receive, by the settings and the stamp of the history.
+    fn entry(&self, word: u32, stamp: u32) -> [u32; 3] {
+        if self.settings[RECEIVE_MODE] == 1 {
+            return [0, word & 1023, 0];
+        }
+        let error = self.settings[PARITY] == 1 && word.count_ones() & 1 == 0;
+        [error.into(), word, if self.settings[STAMPS] == 1 { stamp } else { 0 }]
+    }
+}

@@ -1,0 +1,15 @@
+//! A second, independent program for the ARINC 429 channel module.
+//!
+//! The module is written twice: as a model (`model`) and on lent words (`words`). Random call lists
+//! (`lists`) run through both, and `compare` tells the first difference.
+
+pub mod calls;
+pub mod compare;
+pub mod engine;
+pub mod layout;
+pub mod ledger;
+pub mod lists;
+pub mod model;
+pub mod reading;
+pub mod words;
+pub mod writes;

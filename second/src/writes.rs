@@ -1,0 +1,96 @@
+//! Which words a call may write: the table of docs/MEMORY.md, tested on the words before and after a call.
+
+use crate::calls::Item;
+use crate::layout::*;
+
+/// The first word that the call changed and must not; none where all is well.
+pub fn stray_write(before: &[u32], after: &[u32], item: Item, refused: bool) -> Option<String> {
+    let mut place = 0;
+    // Whole runs first: most words never change.
+    for (old, new) in before.chunks(512).zip(after.chunks(512)) {
+        if old != new {
+            for k in 0..old.len() {
+                if old[k] != new[k] && (refused || !may_write(before, place + k, item)) {
+                    return Some(format!(
+                        "word {} changed from {:#x} to {:#x}{}",
+                        place + k,
+                        old[k],
+                        new[k],
+                        if refused { " by a refused item" } else { "" }
+                    ));
+                }
+            }
+        }
+        place += old.len();
+    }
+    None
+}
+
+fn may_write(before: &[u32], word: usize, item: Item) -> bool {
+    let Item { op, channel, a, .. } = item;
+    if op == 1 {
+        return word < need(a);
+    }
+    if word < MODULE_WORDS {
+        return match op {
+            2 => word != COUNT,
+            3 | 4 => word == STAMP,
+            6 => word == RESOLUTION,
+            8 => word == THRESHOLD,
+            143 | 144 => word == COUNTERS + channel as usize - 1,
+            _ => false,
+        };
+    }
+    // Words beyond the need are never touched.
+    if word >= need(before[COUNT]) {
+        return false;
+    }
+    let of_channel = ((word - MODULE_WORDS) / BLOCK_WORDS) as u32 + 1;
+    let offset = (word - MODULE_WORDS) % BLOCK_WORDS;
+    if op >= 32 && of_channel != channel {
+        return false;
+    }
+    match op {
+        2 => {
+            offset <= RX_LEVEL
+                || [RX_CLEARED, TX_LEVEL, TX_CLEARED].contains(&offset)
+                || (STATE..=LEVEL_MASK).contains(&offset)
+        }
+        _ if offset == LATCH => ![5, 7, 9].contains(&op),
+        32..=43 => {
+            offset == op as usize - 32
+                || (op == 37 && [RX_LEVEL, RX_CLEARED].contains(&offset))
+                || ([33, 39].contains(&op) && [STATE, COMMAND, ASYNC_MARK].contains(&offset))
+        }
+        128 => {
+            let block = &before[block(channel)..];
+            let slot = (block[RX_POSITION] + block[RX_LEVEL]) as usize % SLOTS;
+            let mailbox = MAILBOXES + 3 * (a as usize % 1024);
+            (RX_RING + 3 * slot..RX_RING + 3 * slot + 3).contains(&offset)
+                || [RX_LEVEL, RX_POSITION, RX_ACCEPTED, RX_OVERWRITTEN].contains(&offset)
+                || (block[RECEIVE_MODE] == 1 && (mailbox..mailbox + 3).contains(&offset))
+        }
+        129 => [RX_LEVEL, RX_POSITION, RX_READ].contains(&offset),
+        130 => offset == MAILBOXES + 3 * a as usize,
+        131 => offset == MATCH_SET + a as usize / 32,
+        133 => {
+            let block = &before[block(channel)..];
+            let slot = (block[TX_POSITION] + block[TX_LEVEL]) as usize % SLOTS;
+            [TX_RING + slot, TX_LEVEL, TX_ACCEPTED].contains(&offset)
+        }
+        134 => [ASYNC_MARK, ASYNC_WORD].contains(&offset),
+        135 | 136 => offset == STATE,
+        137 => [STATE, COMMAND].contains(&offset),
+        138 => match before[block(channel) + TRANSMIT_MODE] {
+            2 => [STATE, COMMAND, ASYNC_MARK].contains(&offset),
+            1 => [TX_LEVEL, TX_POSITION, TX_SENT, STATE].contains(&offset),
+            _ => [TX_LEVEL, TX_POSITION, TX_SENT].contains(&offset),
+        },
+        139 => offset == SCHEDULE_RAM + a as usize,
+        141 => offset == MESSAGE_RAM + a as usize,
+        145 => [RX_LEVEL, RX_CLEARED, TX_LEVEL, TX_CLEARED, STATE, COMMAND].contains(&offset),
+        148 => offset == ENABLE,
+        150 => offset == LEVEL_MASK,
+        _ => false,
+    }
+}
