@@ -10,6 +10,8 @@ pub mod layout;
 pub mod ledger;
 pub mod lists;
 pub mod model;
+#[cfg(feature = "proved")]
+pub mod proved;
 pub mod reading;
 pub mod words;
 pub mod writes;

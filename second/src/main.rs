@@ -1,4 +1,5 @@
 //! `second compare --calls N --seed S`: the model against the words on random call lists.
+//! `second compare-proved --calls N --seed S` (feature `proved`): the words against the proved library, answers and the whole memory.
 //! `second list --calls N --seed S`: the same random calls as 16-byte items, for a program that reads them; module reset left out.
 //! `second replay`: performs a list of 16-byte items from standard input, one answer line for each.
 
@@ -21,7 +22,12 @@ fn main() -> ExitCode {
     let words: Vec<&str> = args.iter().map(String::as_str).collect();
     match words.as_slice() {
         ["compare", "--calls", calls, "--seed", seed] => match (calls.parse(), seed.parse()) {
-            (Ok(calls), Ok(seed)) => compare_model_and_words(calls, seed),
+            (Ok(calls), Ok(seed)) => told(calls, seed, &mut AsModel::new(), &mut OnWords),
+            _ => wrong_use(),
+        },
+        #[cfg(feature = "proved")]
+        ["compare-proved", "--calls", calls, "--seed", seed] => match (calls.parse(), seed.parse()) {
+            (Ok(calls), Ok(seed)) => told(calls, seed, &mut OnWords, &mut second::proved::Proved),
             _ => wrong_use(),
         },
         ["list", "--calls", calls, "--seed", seed] => match (calls.parse(), seed.parse()) {
@@ -48,9 +54,10 @@ fn wrong_use() -> ExitCode {
     ExitCode::from(2)
 }
 
-fn compare_model_and_words(calls: u64, seed: u64) -> ExitCode {
+/// Compares two engines and prints what was seen.
+fn told(calls: u64, seed: u64, first: &mut dyn Engine, second: &mut dyn Engine) -> ExitCode {
     let start = Instant::now();
-    let (tally, difference) = compare(calls, seed, &mut AsModel::new(), &mut OnWords);
+    let (tally, difference) = compare(calls, seed, first, second);
     let seconds = start.elapsed().as_secs_f64();
     tally.print();
     println!("{seconds:.2} s, {:.0} calls per second", tally.calls as f64 / seconds);

@@ -1,0 +1,65 @@
+-- An accepted call's answer is no refusal.
+-- Assumes nothing.
+use Prim.Native.Nat.{ℕ}
+use mathlib.Core.Path.{_≡_, refl, ap}
+use mathlib.Core.Bool.{Bool, true, false, cond}
+use mathlib.Core.List.{List}
+use native.Mathlib.Omega.{arith}
+use Rattle.channel.specs.Channel.{didAnswer, shown}
+use Rattle.channel.specs.declared.calls.SettingCall.the-variants.{WriteSetting, ReadSetting}
+use Rattle.channel.specs.declared.calls.MemoryCall.the-variants.{WriteMatch, ReadMatch, WriteSchedule, ReadSchedule, WriteMessage, ReadMessage}
+use Rattle.channel.specs.declared.calls.StatusCall.the-variants.{ReadStatus, ClearLatch, WriteEnable, ReadEnable, WriteLevelMask, ReadLevelMask, ReadPending}
+use Rattle.channel.specs.declared.calls.ReadCall.the-variants.{ReadCounts, ReadReceiveLevel, ReadTransmitLevel, ReadAsync}
+use Rattle.channel.specs.declared.calls.ReceiveCall.the-variants.{Arrive, ReadFifo, ReadMailbox}
+use Rattle.channel.specs.declared.calls.TransmitCall.the-variants.{WriteFifo, WriteAsync, Trigger, Pause, Stop, Step}
+use Rattle.channel.specs.declared.calls.ChannelCall.{ChannelCall}
+use Rattle.channel.specs.declared.calls.ChannelCall.the-variants.{Settings, Memories, Status, Tests, Reads, Receive, Transmit}
+use Rattle.wide.specs.OnModule.{wideAnswer}
+use Rattle.wide.specs.declared.calls.WideCall.{WideCall}
+use Rattle.wide.specs.declared.calls.WideCall.the-variants.{AdvanceStamp, ZeroStamp, ReadStamp, WriteResolution, ReadResolution, WriteThreshold, ReadThreshold}
+use Rattle.fates.specs.History.{isRefused}
+
+-- a refusal is no accepted answer
+pub no : {A : Type 0} → true ≡ false → A
+no e = let z : _≡_ {A = ℕ} 1 0 = ap (λ (b : Bool). cond b 1 0) e in absurd (omega arith)
+
+-- the answer on block b, shown by the block c that is left
+pub block-accepted : (k : ChannelCall) (c b : List ℕ) → isRefused (shown k c (didAnswer k b)) ≡ false
+block-accepted (Settings (WriteSetting s v)) c b = refl
+block-accepted (Settings (ReadSetting s)) c b = refl
+block-accepted (Memories (WriteMatch i v)) c b = refl
+block-accepted (Memories (ReadMatch i)) c b = refl
+block-accepted (Memories (WriteSchedule a v)) c b = refl
+block-accepted (Memories (ReadSchedule a)) c b = refl
+block-accepted (Memories (WriteMessage a v)) c b = refl
+block-accepted (Memories (ReadMessage a)) c b = refl
+block-accepted (Status ReadStatus) c b = refl
+block-accepted (Status (ClearLatch m)) c b = refl
+block-accepted (Status (WriteEnable m)) c b = refl
+block-accepted (Status ReadEnable) c b = refl
+block-accepted (Status (WriteLevelMask m)) c b = refl
+block-accepted (Status ReadLevelMask) c b = refl
+block-accepted (Status ReadPending) c b = refl
+block-accepted (Tests k) c b = refl
+block-accepted (Reads ReadCounts) c b = refl
+block-accepted (Reads ReadReceiveLevel) c b = refl
+block-accepted (Reads ReadTransmitLevel) c b = refl
+block-accepted (Reads ReadAsync) c b = refl
+block-accepted (Receive (Arrive w)) c b = refl
+block-accepted (Receive ReadFifo) c b = refl
+block-accepted (Receive (ReadMailbox i)) c b = refl
+block-accepted (Transmit (WriteFifo w)) c b = refl
+block-accepted (Transmit (WriteAsync w)) c b = refl
+block-accepted (Transmit Trigger) c b = refl
+block-accepted (Transmit Pause) c b = refl
+block-accepted (Transmit Stop) c b = refl
+block-accepted (Transmit Step) c b = refl
+
+pub wide-accepted : (k : WideCall) (m : List ℕ) → isRefused (wideAnswer k m) ≡ false
+wide-accepted (AdvanceStamp n) m = refl
+wide-accepted ZeroStamp m = refl
+wide-accepted ReadStamp m = refl
+wide-accepted (WriteResolution x) m = refl
+wide-accepted ReadResolution m = refl
+wide-accepted (WriteThreshold x) m = refl
+wide-accepted ReadThreshold m = refl

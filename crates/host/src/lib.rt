@@ -1,0 +1,41 @@
+// The C interface: one call item performed on lent memory.
+ghost use mathlib.Core.Path.{_≡_};
+ghost use lib.ListN.{length};
+ghost use Rattle.calls.specs.Items.{decoded};
+ghost use Rattle.host.specs.Host.{hostNumber, hostValues, hostAfter};
+
+// The words that the values of an answer need.
+const VALUES: usize = 7;
+
+// Fewer words than that are lent for the values.
+const SHORT: u32 = 24;
+
+// Performs the item `op channel a b` on a module's memory: the result is the answer's number, and `values` takes the answer's values, zeros
+// where it has fewer. With fewer than seven words lent for the values the result is 24 and nothing is changed.
+#[no_mangle]
+pub extern "C" fn nqabelihu_perform(
+    mem: &mut [u32],
+    values: &mut [u32],
+    op: u32,
+    channel: u32,
+    a: u32,
+    b: u32,
+) -> u32
+    ensures { λ r. ⌜ (r ≡ hostNumber (length (now (values .entry))) (decoded op channel a b) (now (mem .entry)))
+        × (now (values .exit) ≡ hostValues (now (values .entry)) (decoded op channel a b) (now (mem .entry)))
+        × (now (mem .exit) ≡ hostAfter (length (now (values .entry))) (decoded op channel a b) (now (mem .entry))) ⌝ }
+{
+    if values.len() < VALUES {
+        return SHORT;
+    }
+    let answered = calls::perform::perform_item(mem, op, channel, a, b);
+    let words = answered.words;
+    values[0] = words[1];
+    values[1] = words[2];
+    values[2] = words[3];
+    values[3] = words[4];
+    values[4] = words[5];
+    values[5] = words[6];
+    values[6] = words[7];
+    words[0]
+}
