@@ -58,7 +58,8 @@ module _ (m : List ℕ) (ch : ℕ) (k : ChannelCall) (next before after : ℕ) (
 -- ---- a return after a refusal R was computed as r
 
 pub refused : (r R : ℕ) (a : Answer) (m′ m : List ℕ) → r ≡ R → (r ≡ 0 → ⊥) → (Refused r ≡ answerUnless R a) × (m ≡ leaveUnless R m′ m)
-refused r R a m′ m e no′ = let z = ne-eqb R 0 (λ q. no′ (e ∙ q)) in (rw z (ap Refused e), rw z refl)
+refused r R a m′ m e no′ = let z = ne-eqb R 0 (λ q. no′ (e ∙ q)) in
+    (ap Refused e ∙ sym (ap (λ (t : Bool). cond t a (Refused R)) z), sym (ap (λ (t : Bool). cond t m′ m) z))
 
 pub done : (R : ℕ) (a a′ : Answer) (m₁ m′ m : List ℕ) → R ≡ 0 → a ≡ a′ → m₁ ≡ m′ → (a ≡ answerUnless R a′) × (m₁ ≡ leaveUnless R m′ m)
 done R a a′ m₁ m′ m z p q = (rw z p, rw z q)
@@ -66,7 +67,9 @@ done R a a′ m₁ m′ m z p q = (rw z p, rw z q)
 -- the refusal of a call on a channel, from the address's or from the call's
 pub by-address : (m : List ℕ) (ch : ℕ) (k : ChannelCall) (r : ℕ) → r ≡ addressRefusal m ch → (r ≡ 0 → ⊥) → r ≡ onRefusal ch k m
 unfolding onRefusal
-by-address m ch k r e no′ = rw (ne-eqb (addressRefusal m ch) 0 (λ q. no′ (e ∙ q))) e
+by-address m ch k r e no′ =
+    let z = ne-eqb (addressRefusal m ch) 0 (λ q. no′ (e ∙ q)) in
+    e ∙ sym (ap (λ (t : Bool). cond t (channelRefusal k (block m ch)) (addressRefusal m ch)) z)
 
 pub by-call : (m : List ℕ) (ch : ℕ) (k : ChannelCall) (r : ℕ) → addressRefusal m ch ≡ 0 → r ≡ channelRefusal k (block m ch) → r ≡ onRefusal ch k m
 unfolding onRefusal
