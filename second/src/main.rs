@@ -7,15 +7,13 @@ use std::io::{self, Read, Write};
 use std::process::ExitCode;
 use std::time::Instant;
 
+use second::calls::MODULE_RESET;
 use second::compare::compare;
 use second::engine::{AsModel, Engine, OnWords};
 use second::layout::need;
 use second::lists::{list, Event};
 
 const USE: &str = "second compare --calls N --seed S | second list --calls N --seed S | second replay";
-
-/// The op of module reset, which a program that reads a list may not have.
-const MODULE_RESET: u32 = 2;
 
 fn main() -> ExitCode {
     let args: Vec<String> = std::env::args().skip(1).collect();

@@ -1,6 +1,6 @@
 //! The proved library through its C interface.
 
-use crate::calls::{Call, Item};
+use crate::calls::{Call, Item, MODULE_RESET};
 use crate::engine::Engine;
 
 extern "C" {
@@ -16,9 +16,6 @@ extern "C" {
         b: u32,
     ) -> u32;
 }
-
-/// The op of module reset, which the library does not have yet.
-const MODULE_RESET: u32 = 2;
 
 pub struct Proved;
 
@@ -36,6 +33,7 @@ impl Engine for Proved {
         answer
     }
 
+    /// The library has no module reset.
     fn has(&self, op: u32) -> bool {
         op != MODULE_RESET
     }
