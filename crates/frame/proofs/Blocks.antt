@@ -7,13 +7,13 @@ use native.Mathlib.Decide.{decLt}
 use native.Mathlib.Nat.{add-sub-cancel-left}
 use native.Mathlib.Omega.{arith}
 use lib.ListN.{length, take, drop, set, length-take, length-drop, List·getD-append}
-use lib.Seq.{getD-take, drop-set-lt}
+use lib.Seq.{getD-take, drop-set-lt, drop-drop}
 use borrow.Rule.Slice.PartMut.{putMid}
 use Rattle.block.specs.Layout.{word, blockWords}
 use Rattle.block.specs.Ranges.{Usable}
 use Rattle.frame.specs.Layout.{count, moduleWords, most, need, Framed, base, block, withBlock}
 use Rattle.frame.specs.Refusals.{addressRefusal}
-use Rattle.frame.proofs.Parts.{part-front, splice-front, splice-length, part-same, part-below, part-above, splice-comm}
+use Rattle.frame.proofs.Parts.{part-front, part-back, splice-front, splice-length, part-same, part-below, part-above, splice-comm}
 use Rattle.frame.proofs.Refused.{Standing, standing, addressed}
 
 -- a block as the code cuts it, and as the cut comes back
@@ -37,6 +37,13 @@ channel-room n k ch f l h = omega (arith, f)
 pub block-set : (m : List ℕ) (ch i x : ℕ) → i < base ch → block (set m i x) ch ≡ block m ch
 unfolding block
 block-set m ch i x h = ap (take blockWords) (drop-set-lt (base ch) m i x h)
+
+-- another module part before the blocks leaves them
+pub block-behind : (p m : List ℕ) (ch : ℕ) → length p ≡ moduleWords → block (p ++ drop moduleWords m) ch ≡ block m ch
+unfolding block
+block-behind p m ch e =
+    part-back (base ch) ((ch - 1) * blockWords) blockWords p (drop moduleWords m) (omega arith)
+    ∙ ap (take blockWords) (drop-drop ((ch - 1) * blockWords) moduleWords m)
 
 -- what a channel's refusal of 0 says
 pub record Within (m : List ℕ) (ch : ℕ) : Type 0 where

@@ -1,3 +1,4 @@
 pub mod Parts
 pub mod Blocks
 pub mod Refused
+pub mod Each

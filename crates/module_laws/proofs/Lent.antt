@@ -1,6 +1,6 @@
 -- A call that is lent the first words of a sane memory: of the memory l ++ r it is lent l.
 -- Assumes nothing.
-use Prim.Native.Nat.{ℕ, zero, suc, _+_, _-_, _%_, _^_, _≤_, _<_}
+use Prim.Native.Nat.{ℕ, zero, suc, _+_, _%_, _^_, _≤_, _<_}
 use mathlib.Core.Path.{_≡_, refl, sym, ap, _∙_, subst}
 use mathlib.Core.Bool.{Bool, true, false, cond}
 use mathlib.Core.List.{List, _++_}
@@ -19,18 +19,20 @@ use Rattle.channel.specs.declared.calls.Answer.the-variants.{Done, Refused, Val
 use Rattle.channel.specs.declared.calls.ChannelCall.{ChannelCall}
 use Rattle.channel_laws.specs.Kept.{keptOf, keptFirst}
 use Rattle.channel_laws.proofs.Resets.{first-holds}
-use Rattle.frame.specs.Layout.{count, stamp, resolution, threshold, counters, moduleWords, most, need, base, block, withBlock, Framed}
+use Rattle.frame.specs.Layout.{count, stamp, resolution, threshold, moduleWords, most, need, base, block, withBlock, Framed}
+use Rattle.frame.specs.Each.{eachTo}
 use Rattle.frame.specs.Refusals.{frameOf, frameRefusal, partLeasts, partGreatests, partRefusal, channelOf, wideRefusal}
 use Rattle.frame.proofs.Parts.{part-front, splice-front}
 use Rattle.frame.proofs.Blocks.{Within, channel-room}
-use Rattle.power.specs.Power.{powerRefusal, powered}
+use Rattle.frame.proofs.Each.{Own, each-length}
+use Rattle.power.specs.Power.{powerRefusal, factoryPart, powered}
 use Rattle.power.proofs.Laws.{power-framed, powered-length, powered-word-front, powered-block-front}
 use Rattle.wide.specs.Refusals.{callRefusal}
-use Rattle.wide.specs.Rule.{ruledOn, ruledTo, ruledAll}
+use Rattle.wide.specs.Rule.{ruledAll}
 use Rattle.wide.specs.OnModule.{wideAnswer, wideAfter}
 use Rattle.wide.specs.declared.calls.WideCall.{WideCall}
 use Rattle.wide.specs.declared.calls.WideCall.the-variants.{AdvanceStamp, ZeroStamp, ReadStamp, WriteResolution, ReadResolution, WriteThreshold, ReadThreshold}
-use Rattle.wide.proofs.Laws.{ruled-length}
+use Rattle.wide.proofs.Laws.{ruled-own}
 use Rattle.wide.proofs.Stored.{count-kept, stored-framed}
 use Rattle.module.specs.OnChannel.{answerUnless, leaveUnless, onRefusal, counterAt, givenOf, acceptedAfter}
 use Rattle.module.specs.Perform.{answer, after}
@@ -160,25 +162,22 @@ module _ {l r : List ℕ} (f : Front l r) (ch : ℕ) (k : ChannelCall) where
 
 -- ---- enough words, a module-wide call
 
--- the rule on one channel, and on the first n
-rule-front : (l r : List ℕ) (old ch : ℕ) → 1 ≤ ch → ch ≤ most → base ch + blockWords ≤ length l → ruledOn old ch l ++ r ≡ ruledOn old ch (l ++ r)
-unfolding ruledOn
-rule-front l r old ch p q room =
-    with-front l r _ ch room
-    ∙ rw (word-front l r (counters + (ch - 1)) (omega arith), word-front l r threshold (omega arith), block-front l r ch room) refl
-
-rules-front : (l r : List ℕ) → Framed (length l) (word l count) → (old n : ℕ) → n ≤ word l count → ruledTo old n l ++ r ≡ ruledTo old n (l ++ r)
-unfolding ruledTo
-rules-front l r f old zero h = refl
-rules-front l r f old (suc n) h =
-    let room : base (suc n) + blockWords ≤ length (ruledTo old n l) = rw (ruled-length old l f n (omega arith)) (channel-room (length l) (word l count) (suc n) f (omega arith) h) in
-    rule-front (ruledTo old n l) r old (suc n) (omega arith) (omega (arith, f .high)) room
-    ∙ ap (ruledOn old (suc n)) (rules-front l r f old n (omega arith))
+-- a change of the blocks of channels 1 to n
+each-front : {f : List ℕ → ℕ → List ℕ} → Own f → (l r : List ℕ) → Framed (length l) (word l count) → (n : ℕ) → n ≤ word l count
+    → eachTo f n l ++ r ≡ eachTo f n (l ++ r)
+unfolding eachTo
+each-front own l r g zero h = refl
+each-front {f} own l r g (suc n) h =
+    let room : base (suc n) + blockWords ≤ length (eachTo f n l) = rw (each-length own l g n (omega arith)) (channel-room (length l) (word l count) (suc n) g (omega arith) h) in
+    let same : f (eachTo f n l) (suc n) ≡ f (eachTo f n l ++ r) (suc n) = own .same (eachTo f n l) (eachTo f n l ++ r) (suc n) (omega arith) (omega (arith, g .high)) (λ i q. word-front (eachTo f n l) r i (omega arith)) (block-front (eachTo f n l) r (suc n) room) in
+    with-front (eachTo f n l) r _ (suc n) room
+    ∙ ap (withBlock (eachTo f n l ++ r) (suc n)) same
+    ∙ ap (λ (m : List ℕ). withBlock m (suc n) (f m (suc n))) (each-front own l r g n (omega arith))
 
 module _ {l r : List ℕ} (f : Front l r) where
   write-front : (i v v′ : ℕ) → count < i → i < moduleWords → v ≡ v′ → ruledAll l (set l i v) ++ r ≡ ruledAll (l ++ r) (set (l ++ r) i v′)
   write-front i v v′ p q e =
-      rules-front (set l i v) r (stored-framed l i v p (f .sane .frame)) (word l threshold) (word l count) (rw (count-kept l i v p) (omega arith))
+      each-front (ruled-own (word l threshold)) (set l i v) r (stored-framed l i v p (f .sane .frame)) (word l count) (rw (count-kept l i v p) (omega arith))
       ∙ rw (← e, set-append-left l r i v (omega (arith, f .sane .frame)), f .words threshold (omega arith), f .words count (omega arith)) refl
 
   wide-answers : (k : WideCall) → wideAnswer k l ≡ wideAnswer k (l ++ r)
@@ -237,9 +236,13 @@ module _ (l r : List ℕ) (s : Sane (l ++ r)) (less : length l < need (word (l +
   unfolding onRefusal channelOf
   on-short ch k = rw part-short refl
 
+  memory-short : wideRefusal l ≡ 1
+  unfolding wideRefusal
+  memory-short = rw part-short refl
+
   wide-short : (k : WideCall) → callRefusal k l ≡ 1
-  unfolding callRefusal wideRefusal
-  wide-short k = rw part-short refl
+  unfolding callRefusal
+  wide-short k = rw memory-short refl
 
   pub short-on : (ch : ℕ) (k : ChannelCall) → Short (On ch k) l
   short-on ch k = record { answers = rw (on-short ch k) refl; leaves = rw (on-short ch k) refl }
@@ -262,11 +265,8 @@ module _ (k : ℕ) (l : List ℕ) where
 
 -- the memory after it, with the words that were not lent
 module _ (k : ℕ) (l r : List ℕ) where
-  pub powered-count : word (powered k l ++ r) count ≡ k
-  powered-count = powered-word-front k count l r (omega arith)
-
-  pub powered-stamp : word (powered k l ++ r) stamp ≡ 0
-  powered-stamp = powered-word-front k stamp l r (omega arith)
+  pub powered-word : (i : ℕ) → i < moduleWords → word (powered k l ++ r) i ≡ word (factoryPart k) i
+  powered-word i h = powered-word-front k i l r h
 
   pub powered-kept : (ch : ℕ) → 1 ≤ ch → ch ≤ k → keptOf (block (powered k l ++ r) ch) ≡ keptFirst
   powered-kept ch p q = ap keptOf (powered-block-front k ch l r p q) ∙ first-holds blockWords refl .is
@@ -274,12 +274,15 @@ module _ (k : ℕ) (l r : List ℕ) where
   pub powered-sane : powerRefusal k (length l) ≡ 0 → Sane (powered k l ++ r)
   powered-sane e =
       record {
-        frame = rw powered-count (record { low = f .low; high = f .high; room = omega (arith, f .room, powered-length k l (f .room), length-append (powered k l) r) });
+        frame = rw channels (record { low = f .low; high = f .high; room = omega (arith, f .room, powered-length k l (f .room), length-append (powered k l) r) });
         part =
             each-in partLeasts partGreatests (powered k l ++ r) moduleWords
-            (λ i h. rw (powered-word-front k i l r h) (factory-in k i (f .low) (f .high) h));
-        usable = λ ch p q. subst Usable (sym (powered-block-front k ch l r p (rw powered-count at q))) (first-holds blockWords refl .usable);
+            (λ i h. rw (powered-word i h) (factory-in k i (f .low) (f .high) h));
+        usable = λ ch p q. subst Usable (sym (powered-block-front k ch l r p (rw channels at q))) (first-holds blockWords refl .usable);
       }
     where
       f : Framed (length l) k
       f = power-framed k (length l) e
+
+      channels : word (powered k l ++ r) count ≡ k
+      channels = powered-word count (omega arith)

@@ -1,6 +1,6 @@
 -- What an accepted module-wide call leaves of the module's memory.
 -- Assumes nothing.
-use Prim.Native.Nat.{ℕ, zero, suc, _+_, _%_, _^_, _≤_, _<_, zero-le}
+use Prim.Native.Nat.{ℕ, _+_, _%_, _^_, _≤_, _<_, zero-le}
 use mathlib.Core.Path.{_≡_, refl, ap, _∙_}
 use mathlib.Core.List.{List}
 use native.Mathlib.Omega.{arith}
@@ -8,6 +8,7 @@ use borrow.Author.Tests.{ltb-false}
 use lib.Dec.{ltb}
 use lib.ListN.{getD, set}
 use Rattle.block.specs.Layout.{word, latch}
+use Rattle.block.specs.Ranges.{Usable}
 use Rattle.block.proofs.Sound.{is-within}
 use Rattle.block.proofs.Keeps.{rule-keeps}
 use Rattle.channel_laws.specs.Kept.{keptOf}
@@ -16,46 +17,50 @@ use Rattle.frame.specs.Layout.{count, stamp, resolution, threshold, moduleWords
 use Rattle.frame.specs.Refusals.{partLeasts, partGreatests, wideRefusal}
 use Rattle.frame.proofs.Refused.{past, through}
 use Rattle.frame.proofs.Blocks.{block-set}
+use Rattle.frame.proofs.Each.{each-word, each-block}
 use Rattle.wide.specs.Refusals.{rangeRefusal, wideCallRefusal, callRefusal}
-use Rattle.wide.specs.Rule.{ruledOn, ruledTo, ruledAll}
+use Rattle.wide.specs.Rule.{ruledChannel, ruledAll}
 use Rattle.wide.specs.OnModule.{wideStored, wideAfter}
-use Rattle.wide.proofs.Laws.{ruled-word, ruled-block}
+use Rattle.wide.proofs.Laws.{ruled-own}
 use Rattle.wide.proofs.Stored.{count-kept}
 use Rattle.wide.specs.declared.calls.WideCall.{WideCall}
 use Rattle.wide.specs.declared.calls.WideCall.the-variants.{AdvanceStamp, ZeroStamp, ReadStamp, WriteResolution, ReadResolution, WriteThreshold, ReadThreshold}
 use Rattle.module_laws.specs.Sane.{Sane}
-use Rattle.module_laws.proofs.Stores.{inPart, store-sane, with-sane}
+use Rattle.module_laws.proofs.Stores.{inPart, store-sane, each-sane}
 
--- the rule on the first n channels
-ruled-sane : {m : List ℕ} → Sane m → (old n : ℕ) → n ≤ word m count → Sane (ruledTo old n m)
-unfolding ruledTo ruledOn
-ruled-sane s old zero h = s
-ruled-sane {m} s old (suc n) h =
-    let t = ruled-sane s old n (omega arith) in
-    let c : suc n ≤ word (ruledTo old n m) count = rw (ruled-word old m (s .frame) n count (omega arith) (omega arith)) h in
-    with-sane t (suc n) _ (omega arith) c (rule-keeps (t .usable (suc n) (omega arith) c) _ _)
+-- the rule leaves a channel usable, and what it holds as it was
+rule-usable : {m : List ℕ} → Sane m → (old ch : ℕ) → 1 ≤ ch → ch ≤ word m count → Usable (ruledChannel old m ch)
+unfolding ruledChannel
+rule-usable s old ch l h = rule-keeps (s .usable ch l h) _ _
+
+rule-kept : (old ch : ℕ) (m : List ℕ) → keptOf (ruledChannel old m ch) ≡ keptOf (block m ch)
+unfolding ruledChannel
+rule-kept old ch m = store-kept (block m ch) latch _ (omega arith)
 
 -- what a call leaves of memory m, where x is m with the call's word stored
 record Left (m x m′ : List ℕ) : Type 0 where
   sane : Sane m′
   channels : word m′ count ≡ word m count
-  stamped : word m′ stamp ≡ word x stamp
+  words : (i : ℕ) → i < moduleWords → word m′ i ≡ word x i
   kept : (ch : ℕ) → 1 ≤ ch → ch ≤ word m count → keptOf (block m′ ch) ≡ keptOf (block m ch)
 
 reads : {m : List ℕ} → Sane m → Left m m m
-reads s = record { sane = s; channels = refl; stamped = refl; kept = λ ch l h. refl }
+reads s = record { sane = s; channels = refl; words = λ i h. refl; kept = λ ch l h. refl }
 
 writes : {m : List ℕ} → Sane m → (i v : ℕ) → count < i → i < moduleWords → inPart i v → Left m (set m i v) (ruledAll m (set m i v))
 writes {m} s i v l h r =
     record {
-      sane = ruled-sane t (word m threshold) (word m count) c;
-      channels = ruled-word _ x (t .frame) (word m count) count c (omega arith) ∙ count-kept m i v l;
-      stamped = ruled-word _ x (t .frame) (word m count) stamp c (omega arith);
+      sane = each-sane t (ruled-own old) (rule-usable t old) (word m count) c;
+      channels = same count (omega arith) ∙ count-kept m i v l;
+      words = same;
       kept =
-          λ ch p q. ap keptOf (ruled-block _ x (t .frame) (word m count) ch p q c) ∙ store-kept (block x ch) latch _ (omega arith)
+          λ ch p q. ap keptOf (each-block (ruled-own old) x (t .frame) (word m count) ch p q c) ∙ rule-kept old ch x
           ∙ ap keptOf (block-set m ch i v (omega arith));
     }
   where
+    old : ℕ
+    old = word m threshold
+
     x : List ℕ
     x = set m i v
 
@@ -64,6 +69,9 @@ writes {m} s i v l h r =
 
     c : word m count ≤ word (set m i v) count
     c = rw (count-kept m i v l) (omega arith)
+
+    same : (j : ℕ) → j < moduleWords → word (ruledAll m (set m i v)) j ≡ word (set m i v) j
+    same j q = each-word (ruled-own (word m threshold)) (set m i v) (t .frame) (word m count) j c q
 
 -- an argument that is not refused is in its range
 argument : (i least greatest v : ℕ) → least ≡ getD partLeasts i 0 → greatest ≡ getD partGreatests i 0 → rangeRefusal least greatest v ≡ 0 → inPart i v
@@ -96,8 +104,9 @@ module _ {m : List ℕ} (s : Sane m) (k : WideCall) (e : callRefusal k m ≡ 0) 
   pub wide-count : word (wideAfter k m) count ≡ word m count
   wide-count = accepted .channels
 
-  pub wide-stamp : word (wideAfter k m) stamp ≡ word (wideStored k m) stamp
-  wide-stamp = accepted .stamped
+  -- the module part has the call's word, and every other word of it is as it was
+  pub wide-word : (i : ℕ) → i < moduleWords → word (wideAfter k m) i ≡ word (wideStored k m) i
+  wide-word = accepted .words
 
   pub wide-kept : (ch : ℕ) → 1 ≤ ch → ch ≤ word m count → keptOf (block (wideAfter k m) ch) ≡ keptOf (block m ch)
   wide-kept = accepted .kept

@@ -1,23 +1,23 @@
 -- The rule on every channel after a module-wide write (paper 01, "Faults and status").
-use Prim.Native.Nat.{ℕ, zero, suc, _+_, _-_}
+use Prim.Native.Nat.{ℕ, _+_, _-_}
 use mathlib.Core.List.{List}
 use Rattle.block.specs.Layout.{word}
 use Rattle.block.specs.Status.{faulty, ruled}
 use Rattle.channel.specs.Channel.{holding}
-use Rattle.frame.specs.Layout.{count, threshold, counters, block, withBlock}
+use Rattle.frame.specs.Layout.{count, threshold, counters, block}
+use Rattle.frame.specs.Each.{eachTo}
 
 -- "6 counter above threshold": the rule on a channel's block, by the threshold before the write and now; no other condition changes
 abbrev pub ruledBlock : ℕ → ℕ → ℕ → List ℕ → List ℕ
 ruledBlock counter old now′ b = ruled (holding (faulty counter old) b) (holding (faulty counter now′) b) b
 
--- "Each channel has a fault counter, kept in the module part": the memory with the rule run on one channel
-unfoldable pub ruledOn : ℕ → ℕ → List ℕ → List ℕ
-ruledOn old ch m = withBlock m ch (ruledBlock (word m (counters + (ch - 1))) old (word m threshold) (block m ch))
+-- "Each channel has a fault counter, kept in the module part": the rule on a channel's block, by its counter and the threshold in the memory
+unfoldable pub ruledChannel : ℕ → List ℕ → ℕ → List ℕ
+ruledChannel old m ch = ruledBlock (word m (counters + (ch - 1))) old (word m threshold) (block m ch)
 
 -- "Module-wide writes apply the rule to every channel": on channels 1 to n
-unfoldable pub ruledTo : ℕ → ℕ → List ℕ → List ℕ
-ruledTo old zero m = m
-ruledTo old (suc n) m = ruledOn old (suc n) (ruledTo old n m)
+abbrev pub ruledTo : ℕ → ℕ → List ℕ → List ℕ
+ruledTo old n m = eachTo (ruledChannel old) n m
 
 -- "did not before the call": on every channel of a memory after a write, with the threshold and the count as they were before it
 abbrev pub ruledAll : List ℕ → List ℕ → List ℕ

@@ -10,8 +10,8 @@ ghost use lib.ListN.{length};
 ghost use Rattle.block.specs.Layout.{word, Whole};
 ghost use Rattle.block.specs.Status.{ruled};
 ghost use Rattle.channel.specs.Channel.{holding};
-ghost use Rattle.frame.specs.Layout.{count, Framed};
-ghost use Rattle.wide.specs.Rule.{ruledOn, ruledTo};
+ghost use Rattle.frame.specs.Layout.{count, Framed, withBlock};
+ghost use Rattle.wide.specs.Rule.{ruledChannel, ruledTo};
 
 // Runs the rule on a block, with the fault before a write and after it, 0 or 1.
 fn rule_block(block: &mut [u32], before: u32, after: u32)
@@ -29,7 +29,7 @@ fn rule_block(block: &mut [u32], before: u32, after: u32)
 // Runs the rule on a channel, with the threshold as it was before a write.
 fn rule_channel(mem: &mut [u32], channel: u32, old: u32)
     requires { ⌜ (Framed (length (now mem)) (word (now mem) count)) × (1 ≤ channel) × (channel ≤ word (now mem) count) ⌝ }
-    ensures { λ r. ⌜ now (mem .exit) ≡ ruledOn old channel (now (mem .entry)) ⌝ }
+    ensures { λ r. ⌜ now (mem .exit) ≡ withBlock (now (mem .entry)) channel (ruledChannel old (now (mem .entry)) channel) ⌝ }
 {
     let counter = mem[COUNTERS + ((channel - 1) as usize)];
     let before = block::status::fault(counter, old);
