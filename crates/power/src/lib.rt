@@ -20,8 +20,8 @@ ghost use Rattle.power.specs.Power.{factoryPart, factoryBlocks, powerRef
 // The fault threshold at power-up.
 const FACTORY_THRESHOLD: u32 = 5;
 
-// Fills the module part as power-up leaves it.
-fn fill_part(mem: &mut [u32], count: u32)
+// Fills the module part as power-up and module reset leave it.
+pub fn fill_part(mem: &mut [u32], count: u32)
     requires { ⌜ moduleWords ≤ length (now mem) ⌝ }
     ensures { λ r. ⌜ now (mem .exit) ≡ factoryPart count ++ drop moduleWords (now (mem .entry)) ⌝ }
 {
