@@ -13,14 +13,15 @@ use Rattle.channel.specs.declared.calls.ReceiveCall.the-variants.{Arrive, ReadF
 use Rattle.channel.specs.declared.calls.TransmitCall.the-variants.{WriteFifo, WriteAsync, Trigger, Pause, Stop, Step}
 use Rattle.channel.specs.declared.calls.ChannelCall.the-variants.{Settings, Memories, Status, Tests, Reads, Receive, Transmit}
 use Rattle.wide.specs.declared.calls.WideCall.the-variants.{AdvanceStamp, ZeroStamp, ReadStamp, WriteResolution, ReadResolution, WriteThreshold, ReadThreshold}
-use Rattle.module.specs.declared.calls.Call.the-variants.{PowerUp, Wide, On}
+use Rattle.module.specs.declared.calls.Call.the-variants.{PowerUp, Reset, Wide, On}
 use Rattle.calls.specs.declared.items.Item.the-variants.{NoCall, Asked}
 use Rattle.calls.specs.declared.items.Item.{Item}
 use Rattle.calls.specs.Items.{wideOf, switchOf, settingOf, settingItem, receiveOf, matchOf, transmitOf, ramOf, testOf, statusOf, readOf, channelOf, decoded}
 
--- ops 1 and 3 to 9
+-- ops 1 to 9
 pub wide-rows : (ch a b : ℕ) →
     (decoded 1 ch a b ≡ Asked (PowerUp a)) ×
+    (decoded 2 ch a b ≡ Asked Reset) ×
     (decoded 3 ch a b ≡ Asked (Wide (AdvanceStamp a))) ×
     (decoded 4 ch a b ≡ Asked (Wide ZeroStamp)) ×
     (decoded 5 ch a b ≡ Asked (Wide ReadStamp)) ×
@@ -29,7 +30,7 @@ pub wide-rows : (ch a b : ℕ) →
     (decoded 8 ch a b ≡ Asked (Wide (WriteThreshold a))) ×
     (decoded 9 ch a b ≡ Asked (Wide ReadThreshold))
 unfolding decoded wideOf settingItem settingOf switchOf channelOf receiveOf matchOf transmitOf ramOf testOf statusOf readOf
-wide-rows ch a b = (refl, refl, refl, refl, refl, refl, refl, refl)
+wide-rows ch a b = (refl, refl, refl, refl, refl, refl, refl, refl, refl)
 
 -- ops 32 to 43
 pub write-rows : (ch a b : ℕ) →
@@ -99,27 +100,27 @@ pub channel-rows : (ch a b : ℕ) →
 unfolding decoded wideOf settingItem settingOf switchOf channelOf receiveOf matchOf transmitOf ramOf testOf statusOf readOf
 channel-rows ch a b = (refl, refl, refl, refl, refl, refl, refl, refl, refl, refl, refl, refl, refl, refl, refl, refl, refl, refl, refl, refl, refl, refl, refl, refl, refl, refl, refl, refl, refl)
 
--- no call: ops 0 and 2, 10 to 31, 44 to 63, 76 to 127, and from 157 on
-pub none-low : (ch a b : ℕ) → (decoded 0 ch a b ≡ NoCall) × (decoded 2 ch a b ≡ NoCall)
+-- no call: ops 0, 10 to 31, 44 to 63, 76 to 127, and from 157 on
+pub none-low : (ch a b : ℕ) → decoded 0 ch a b ≡ NoCall
 unfolding decoded
-none-low ch a b = (refl, refl)
+none-low ch a b = refl
 
 pub none-to-31 : (op ch a b : ℕ) → 10 ≤ op → op < 32 → decoded op ch a b ≡ NoCall
 unfolding decoded settingItem
 none-to-31 op ch a b l h =
-    rw (ne-eqb op 1 (λ e. omega (arith, l, e)), le-ltb op 3 (omega arith), le-ltb op 10 (omega arith), lt-ltb op 128 (omega arith), lt-ltb op 32 (omega arith)) refl
+    rw (le-ltb op 1 (omega arith), ne-eqb op 1 (λ e. omega (arith, l, e)), ne-eqb op 2 (λ e. omega (arith, l, e)), le-ltb op 10 (omega arith), lt-ltb op 128 (omega arith), lt-ltb op 32 (omega arith)) refl
 
 pub none-to-63 : (op ch a b : ℕ) → 44 ≤ op → op < 64 → decoded op ch a b ≡ NoCall
 unfolding decoded settingItem
 none-to-63 op ch a b l h =
-    rw (ne-eqb op 1 (λ e. omega (arith, l, e)), le-ltb op 3 (omega arith), le-ltb op 10 (omega arith), lt-ltb op 128 (omega arith), le-ltb op 32 (omega arith), le-ltb op 44 (omega arith), lt-ltb op 64 (omega arith)) refl
+    rw (le-ltb op 1 (omega arith), ne-eqb op 1 (λ e. omega (arith, l, e)), ne-eqb op 2 (λ e. omega (arith, l, e)), le-ltb op 10 (omega arith), lt-ltb op 128 (omega arith), le-ltb op 32 (omega arith), le-ltb op 44 (omega arith), lt-ltb op 64 (omega arith)) refl
 
 pub none-to-127 : (op ch a b : ℕ) → 76 ≤ op → op < 128 → decoded op ch a b ≡ NoCall
 unfolding decoded settingItem
 none-to-127 op ch a b l h =
-    rw (ne-eqb op 1 (λ e. omega (arith, l, e)), le-ltb op 3 (omega arith), le-ltb op 10 (omega arith), lt-ltb op 128 (omega arith), le-ltb op 32 (omega arith), le-ltb op 44 (omega arith), le-ltb op 64 (omega arith), le-ltb op 76 (omega arith)) refl
+    rw (le-ltb op 1 (omega arith), ne-eqb op 1 (λ e. omega (arith, l, e)), ne-eqb op 2 (λ e. omega (arith, l, e)), le-ltb op 10 (omega arith), lt-ltb op 128 (omega arith), le-ltb op 32 (omega arith), le-ltb op 44 (omega arith), le-ltb op 64 (omega arith), le-ltb op 76 (omega arith)) refl
 
 pub none-above : (op ch a b : ℕ) → 157 ≤ op → decoded op ch a b ≡ NoCall
 unfolding decoded
 none-above op ch a b l =
-    rw (ne-eqb op 1 (λ e. omega (arith, l, e)), le-ltb op 3 (omega arith), le-ltb op 10 (omega arith), le-ltb op 128 (omega arith), le-ltb op 157 (omega arith)) refl
+    rw (le-ltb op 1 (omega arith), ne-eqb op 1 (λ e. omega (arith, l, e)), ne-eqb op 2 (λ e. omega (arith, l, e)), le-ltb op 10 (omega arith), le-ltb op 128 (omega arith), le-ltb op 157 (omega arith)) refl

@@ -21,7 +21,7 @@ use Rattle.channel.specs.declared.calls.ChannelCall.{ChannelCall}
 use Rattle.channel.specs.declared.calls.ChannelCall.the-variants.{Settings, Memories, Status, Tests, Reads, Receive, Transmit}
 use Rattle.wide.specs.declared.calls.WideCall.{WideCall}
 use Rattle.wide.specs.declared.calls.WideCall.the-variants.{AdvanceStamp, ZeroStamp, ReadStamp, WriteResolution, ReadResolution, WriteThreshold, ReadThreshold}
-use Rattle.module.specs.declared.calls.Call.the-variants.{PowerUp, Wide, On}
+use Rattle.module.specs.declared.calls.Call.the-variants.{PowerUp, Reset, Wide, On}
 use Rattle.calls.specs.declared.items.Item.{Item}
 use Rattle.calls.specs.declared.items.Item.the-variants.{NoCall, Asked}
 
@@ -110,11 +110,12 @@ channelOf op a b =
     (cond (ltb op 146) (Tests (testOf op a))
     (cond (ltb op 153) (Status (statusOf op a)) (Reads (readOf op)))))))
 
--- the call of an item: op 1 is the power-up; an op that is not in the table is no call
+-- the call of an item: op 1 is the power-up, op 2 the module reset; an op that is not in the table is no call
 unfoldable pub decoded : ℕ → ℕ → ℕ → ℕ → Item
 decoded op ch a b =
-    cond (eqb op 1) (Asked (PowerUp a))
-    (cond (ltb op 3) NoCall
+    cond (ltb op 1) NoCall
+    (cond (eqb op 1) (Asked (PowerUp a))
+    (cond (eqb op 2) (Asked Reset)
     (cond (ltb op 10) (Asked (Wide (wideOf op a)))
     (cond (ltb op 128) (settingItem op ch a)
-    (cond (ltb op 157) (Asked (On ch (channelOf op a b))) NoCall))))
+    (cond (ltb op 157) (Asked (On ch (channelOf op a b))) NoCall)))))

@@ -262,11 +262,14 @@ fn channel_of(op: u32, a: u32, b: u32) -> ChannelCall
 pub fn decode(op: u32, channel: u32, a: u32, b: u32) -> Item
     ensures { λ r. ⌜ r ≡ decoded op channel a b ⌝ }
 {
+    if op < 1 {
+        return Item::NoCall;
+    }
     if op == 1 {
         return Item::Asked(Call::PowerUp(a));
     }
-    if op < 3 {
-        return Item::NoCall;
+    if op == 2 {
+        return Item::Asked(Call::Reset);
     }
     if op < 10 {
         return Item::Asked(Call::Wide(wide_of(op, a)));

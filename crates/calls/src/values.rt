@@ -117,6 +117,7 @@ pub fn values(call: Call) -> usize
 {
     match call {
         Call::PowerUp(_) => 0,
+        Call::Reset => 0,
         Call::Wide(k) => wide_values(k),
         Call::On(_, k) => channel_values(k),
     }

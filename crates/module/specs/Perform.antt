@@ -6,27 +6,28 @@ use lib.ListN.{length}
 use Rattle.channel.specs.Answers.{channelValues, numbersOf}
 use Rattle.channel.specs.declared.calls.Answer.{Answer}
 use Rattle.channel.specs.declared.calls.Answer.the-variants.{Done}
+use Rattle.frame.specs.Refusals.{wideRefusal}
 use Rattle.power.specs.Power.{powerRefusal, powerAfter}
 use Rattle.wide.specs.Refusals.{callRefusal}
 use Rattle.wide.specs.OnModule.{wideAnswer, wideAfter}
 use Rattle.wide.specs.declared.calls.WideCall.{WideCall}
 use Rattle.wide.specs.declared.calls.WideCall.the-variants.{AdvanceStamp, ZeroStamp, ReadStamp, WriteResolution, ReadResolution, WriteThreshold, ReadThreshold}
+use Rattle.reset.specs.Reset.{resetAfter}
 use Rattle.module.specs.OnChannel.{answerUnless, leaveUnless, onAnswer, onAfter}
 use Rattle.module.specs.declared.calls.Call.{Call}
-use Rattle.module.specs.declared.calls.Call.the-variants.{PowerUp, Wide, On}
-
-abbrev pub powerAnswer : ℕ → List ℕ → Answer
-powerAnswer k m = answerUnless (powerRefusal k (length m)) Done
+use Rattle.module.specs.declared.calls.Call.the-variants.{PowerUp, Reset, Wide, On}
 
 -- the answer of a call on a memory
 abbrev pub answer : Call → List ℕ → Answer
-answer (PowerUp k) m = powerAnswer k m
+answer (PowerUp k) m = answerUnless (powerRefusal k (length m)) Done
+answer Reset m = answerUnless (wideRefusal m) Done
 answer (Wide k) m = answerUnless (callRefusal k m) (wideAnswer k m)
 answer (On ch k) m = onAnswer ch k m
 
 -- the memory after a call
 abbrev pub after : Call → List ℕ → List ℕ
 after (PowerUp k) m = powerAfter k m
+after Reset m = resetAfter m
 after (Wide k) m = leaveUnless (callRefusal k m) (wideAfter k m) m
 after (On ch k) m = onAfter ch k m
 
@@ -42,6 +43,7 @@ wideValues ReadThreshold = 1
 
 abbrev pub values : Call → ℕ
 values (PowerUp k) = 0
+values Reset = 0
 values (Wide k) = wideValues k
 values (On ch k) = channelValues k
 

@@ -5,6 +5,8 @@ use wide::calls::WideCall;
 pub enum Call {
     // The number of channels.
     PowerUp(u32),
+    // Module reset.
+    Reset,
     // A call that names no channel.
     Wide(WideCall),
     // A channel, from 1, and the call on it.

@@ -3,13 +3,14 @@ use crate::calls::Call;
 use crate::on_channel::on_channel;
 use channel::calls::Answer;
 ghost use mathlib.Core.Path.{_≡_};
-ghost use Rattle.power.specs.Power.{powerAfter};
-ghost use Rattle.module.specs.Perform.{powerAnswer, answer, after};
+ghost use Rattle.channel.specs.declared.calls.Answer.the-variants.{Done};
+ghost use Rattle.module.specs.OnChannel.{answerUnless};
+ghost use Rattle.module.specs.Perform.{answer, after};
 
-fn power_up(mem: &mut [u32], count: u32) -> Answer
-    ensures { λ r. ⌜ (r ≡ powerAnswer count (now (mem .entry))) × (now (mem .exit) ≡ powerAfter count (now (mem .entry))) ⌝ }
+// The answer of a call that gives no values, by its refusal's number.
+fn done_unless(refusal: u32) -> Answer
+    ensures { λ r. ⌜ r ≡ answerUnless refusal Done ⌝ }
 {
-    let refusal = power::power_up(mem, count);
     if refusal == 0 {
         return Answer::Done;
     }
@@ -21,7 +22,8 @@ pub fn perform(mem: &mut [u32], call: Call) -> Answer
     ensures { λ r. ⌜ (r ≡ answer call (now (mem .entry))) × (now (mem .exit) ≡ after call (now (mem .entry))) ⌝ }
 {
     match call {
-        Call::PowerUp(count) => power_up(mem, count),
+        Call::PowerUp(count) => done_unless(power::power_up(mem, count)),
+        Call::Reset => done_unless(reset::reset(mem)),
         Call::Wide(k) => wide::on_module::on_module(mem, k),
         Call::On(channel, k) => on_channel(mem, channel, k),
     }

@@ -30,7 +30,12 @@ returns-6 : tie.Need-returns-6
 unfolding decoded
 returns-6 c = search branches
 
+returns-7 : tie.Need-returns-7
+unfolding decoded
+returns-7 c = search branches
+
 pub decode-spec : {M : Type 1} → statement M
 decode-spec =
     tie.close
-    (tie.spec returns returns-2 (λ c κs. search needs) returns-3 (λ c κs. search needs) returns-4 (λ c κs. search needs) returns-5 returns-6)
+    (tie.spec returns returns-2 returns-3 (λ c κs. search needs) returns-4 (λ c κs. search needs) returns-5 (λ c κs. search needs) returns-6
+    returns-7)
