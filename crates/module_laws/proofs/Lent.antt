@@ -3,12 +3,12 @@
 use Prim.Native.Nat.{ℕ, zero, suc, _+_, _%_, _^_, _≤_, _<_}
 use mathlib.Core.Path.{_≡_, refl, sym, ap, _∙_, subst}
 use mathlib.Core.Bool.{Bool, true, false, cond}
-use mathlib.Core.List.{List, _++_}
+use mathlib.Core.List.{List, _++_, append-assoc}
 use native.Mathlib.Omega.{arith}
 use borrow.Author.Tests.{eqb-true, ne-eqb, ltb-false, le-ltb, lt-ltb}
 use lib.Dec.{eqb, ltb}
-use lib.ListN.{length, set, length-set, length-append, List·getD-append}
-use lib.Seq.{set-append-left}
+use lib.ListN.{length, set, drop, length-set, length-append, List·getD-append}
+use lib.Seq.{set-append-left, drop-append-le}
 use Rattle.block.specs.Layout.{word, blockWords}
 use Rattle.block.specs.Ranges.{Usable}
 use Rattle.block.proofs.Sound.{each-in}
@@ -34,10 +34,12 @@ use Rattle.wide.specs.declared.calls.WideCall.{WideCall}
 use Rattle.wide.specs.declared.calls.WideCall.the-variants.{AdvanceStamp, ZeroStamp, ReadStamp, WriteResolution, ReadResolution, WriteThreshold, ReadThreshold}
 use Rattle.wide.proofs.Laws.{ruled-own}
 use Rattle.wide.proofs.Stored.{count-kept, stored-framed}
+use Rattle.reset.specs.Reset.{resetTo, moduleReset}
+use Rattle.reset.proofs.Laws.{reset-own}
 use Rattle.module.specs.OnChannel.{answerUnless, leaveUnless, onRefusal, counterAt, givenOf, acceptedAfter}
 use Rattle.module.specs.Perform.{answer, after}
 use Rattle.module.specs.declared.calls.Call.{Call}
-use Rattle.module.specs.declared.calls.Call.the-variants.{PowerUp, Wide, On}
+use Rattle.module.specs.declared.calls.Call.the-variants.{PowerUp, Reset, Wide, On}
 use Rattle.module_laws.specs.Sane.{Sane}
 use Rattle.module_laws.proofs.Sane.{sane-part, sane-wide}
 use Rattle.module_laws.proofs.Stores.{part-in}
@@ -160,7 +162,7 @@ module _ {l r : List ℕ} (f : Front l r) (ch : ℕ) (k : ChannelCall) where
   pub front-on : Alike (On ch k) l r
   front-on = record { answers = answer-by _ _ refusal-same accepted-answer; leaves = leave-by l r _ _ refusal-same accepted-after }
 
--- ---- enough words, a module-wide call
+-- ---- enough words, a module-wide call and a module reset
 
 -- a change of the blocks of channels 1 to n
 each-front : {f : List ℕ → ℕ → List ℕ} → Own f → (l r : List ℕ) → Framed (length l) (word l count) → (n : ℕ) → n ≤ word l count
@@ -210,6 +212,25 @@ module _ {l r : List ℕ} (f : Front l r) where
         leaves = leave-by l r _ _ (wide-same k) (λ e. wide-leaves k);
       }
 
+  -- a module reset
+  memory-same : wideRefusal l ≡ wideRefusal (l ++ r)
+  memory-same = sane-wide (f .sane) ∙ sym (sane-wide (f .whole))
+
+  reset-leaves : moduleReset l ++ r ≡ moduleReset (l ++ r)
+  unfolding moduleReset
+  reset-leaves =
+      let k : ℕ = word l count in
+      let e = each-length reset-own l (f .sane .frame) k (omega arith) in
+      let long : moduleWords ≤ length (resetTo k l) = omega (arith, e, f .sane .frame) in
+      append-assoc (factoryPart k) (drop moduleWords (resetTo k l)) r
+      ∙ ap (λ (t : List ℕ). factoryPart k ++ t)
+      (sym (drop-append-le moduleWords (resetTo k l) r long) ∙ ap (drop moduleWords) (each-front reset-own l r (f .sane .frame) k (omega arith)))
+      ∙ rw (f .words count (omega arith)) refl
+
+  pub front-reset : Alike Reset l r
+  front-reset =
+      record { answers = answer-by Done Done memory-same (λ e. refl); leaves = leave-by l r _ _ memory-same (λ e. reset-leaves) }
+
 -- ---- too few words
 
 -- the call is refused as short and leaves what it was lent
@@ -249,6 +270,9 @@ module _ (l r : List ℕ) (s : Sane (l ++ r)) (less : length l < need (word (l +
 
   pub short-wide : (k : WideCall) → Short (Wide k) l
   short-wide k = record { answers = rw (wide-short k) refl; leaves = rw (wide-short k) refl }
+
+  pub short-reset : Short Reset l
+  short-reset = record { answers = rw memory-short refl; leaves = rw memory-short refl }
 
 -- ---- a power-up goes by the number of lent words alone
 

@@ -4,4 +4,5 @@ pub mod Stores
 pub mod OnChannel
 pub mod Power
 pub mod OnModule
+pub mod Reset
 pub mod Lent
