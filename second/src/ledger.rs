@@ -1,6 +1,6 @@
 //! The history of the description's "Fates": from the calls and their answers alone, nothing from memory.
 //!
-//! Entries of each FIFO stand in the order in which they were accepted; each has exactly one fate.
+//! Entries of each FIFO stand in the order in which they were accepted; each has exactly one fate, with the places of the two calls.
 
 use crate::calls::{Call, Item};
 use crate::layout::*;
@@ -15,11 +15,20 @@ pub enum Fate {
     Overwritten,
 }
 
+/// An accepted entry: the place in the list, from 1, of the call that accepted it, its fate, and the place of the call that gave it (0 while held).
+#[derive(Clone, Copy, PartialEq, Eq, Debug)]
+pub struct Accepted<T> {
+    pub entry: T,
+    pub accepted_at: u64,
+    pub fate: Fate,
+    pub fate_at: u64,
+}
+
 /// One FIFO's history. Counts are whole numbers.
 #[derive(Clone, Debug)]
 pub struct Register<T> {
-    /// Entry number n, from 0, and its fate.
-    pub entries: Vec<(T, Fate)>,
+    /// By number, from 0.
+    pub entries: Vec<Accepted<T>>,
     /// Number of the oldest entry held; as many as there are entries where none is held.
     oldest: usize,
     pub taken: u64,
@@ -37,20 +46,20 @@ impl<T: Copy + PartialEq + std::fmt::Debug> Register<T> {
     }
 
     pub fn held(&self) -> impl Iterator<Item = T> + '_ {
-        self.entries[self.oldest..].iter().map(|&(entry, _)| entry)
+        self.entries[self.oldest..].iter().map(|accepted| accepted.entry)
     }
 
-    fn accept(&mut self, entry: T) {
-        self.entries.push((entry, Fate::Held));
+    fn accept(&mut self, at: u64, entry: T) {
+        self.entries.push(Accepted { entry, accepted_at: at, fate: Fate::Held, fate_at: 0 });
     }
 
     /// Takes the oldest out. It is never asked for with none held.
-    fn remove(&mut self, fate: Fate) -> Result<T, String> {
-        let Some(place) = self.entries.get_mut(self.oldest) else {
+    fn remove(&mut self, at: u64, fate: Fate) -> Result<T, String> {
+        let Some(oldest) = self.entries.get_mut(self.oldest) else {
             return Err("the oldest is asked for with none held".to_string());
         };
-        place.1 = fate;
-        let entry = place.0;
+        (oldest.fate, oldest.fate_at) = (fate, at);
+        let entry = oldest.entry;
         self.oldest += 1;
         match fate {
             Fate::Taken => self.taken += 1,
@@ -60,24 +69,25 @@ impl<T: Copy + PartialEq + std::fmt::Debug> Register<T> {
         Ok(entry)
     }
 
-    fn clear(&mut self) {
-        while self.oldest < self.entries.len() {
-            self.entries[self.oldest].1 = Fate::Cleared;
-            self.oldest += 1;
-            self.cleared += 1;
-        }
+    fn clear(&mut self, at: u64) {
+        while self.remove(at, Fate::Cleared).is_ok() {}
     }
 
-    /// Every accepted entry has one fate, the counts are those of the fates, and those held are the last.
+    /// Every accepted entry has one fate, given by a later call; fates are given in number order; the counts are those of the fates, and those
+    /// held are the last.
     pub fn check(&self) -> Result<(), String> {
-        let of = |fate| self.entries.iter().filter(|&&(_, f)| f == fate).count() as u64;
+        let of = |fate| self.entries.iter().filter(|e| e.fate == fate).count() as u64;
+        let gone = &self.entries[..self.oldest];
         let held = (self.entries.len() - self.oldest) as u64;
         let right = of(Fate::Held) == held
             && of(Fate::Taken) == self.taken
             && of(Fate::Cleared) == self.cleared
             && of(Fate::Overwritten) == self.overwritten
             && self.accepted() == self.taken + self.cleared + self.overwritten + held
-            && self.entries[self.oldest..].iter().all(|&(_, fate)| fate == Fate::Held);
+            && self.entries[self.oldest..].iter().all(|e| e.fate == Fate::Held)
+            && gone.iter().all(|e| e.accepted_at < e.fate_at)
+            && self.entries.windows(2).all(|pair| pair[0].accepted_at < pair[1].accepted_at)
+            && gone.windows(2).all(|pair| pair[0].fate_at <= pair[1].fate_at);
         right.then_some(()).ok_or_else(|| "fates and counts disagree".to_string())
     }
 }
@@ -93,6 +103,8 @@ const FACTORY: [u32; 12] = [0, 0, 1, 0, 0, 0, 0, 0, 255, 128, 32, 4];
 
 #[derive(Clone, Debug, Default)]
 pub struct Ledger {
+    /// How many calls were entered, power-ups and refused ones too: the place of the last.
+    pub place: u64,
     pub stamp: u32,
     pub resolution: u32,
     pub threshold: u32,
@@ -102,6 +114,8 @@ pub struct Ledger {
 impl Ledger {
     /// Enters a call with its answer; an error where the answer cannot follow from the history.
     pub fn enter(&mut self, item: Item, answer: &[u32]) -> Result<(), String> {
+        self.place += 1;
+        let place = self.place;
         // Any refused call, and an item that is no call: nothing.
         let (Some(call), Some(0)) = (Call::of(item), answer.first()) else {
             return Ok(());
@@ -109,13 +123,13 @@ impl Ledger {
         match call {
             Call::PowerUp { count } => {
                 let book = Book { settings: FACTORY, receive: Register::new(), transmit: Register::new() };
-                *self = Ledger { stamp: 0, resolution: 0, threshold: 5, channels: vec![book; count as usize] };
+                *self = Ledger { place, stamp: 0, resolution: 0, threshold: 5, channels: vec![book; count as usize] };
             }
             Call::ModuleReset => {
                 (self.stamp, self.resolution, self.threshold) = (0, 0, 5);
                 for book in &mut self.channels {
-                    book.receive.clear();
-                    book.transmit.clear();
+                    book.receive.clear(place);
+                    book.transmit.clear(place);
                     book.settings = FACTORY;
                 }
             }
@@ -129,7 +143,7 @@ impl Ledger {
                 let book = (self.channels)
                     .get_mut((item.channel as usize).wrapping_sub(1))
                     .ok_or("an accepted call on a channel that is not there")?;
-                book.enter(call, stamp, &answer[1..])?;
+                book.enter(place, call, stamp, &answer[1..])?;
             }
         }
         Ok(())
@@ -207,36 +221,36 @@ impl Book {
         [r.accepted(), r.taken, r.cleared, r.overwritten, t.accepted(), t.taken, t.cleared].map(|n| n as u32)
     }
 
-    fn enter(&mut self, call: Call, stamp: u32, values: &[u32]) -> Result<(), String> {
+    fn enter(&mut self, at: u64, call: Call, stamp: u32, values: &[u32]) -> Result<(), String> {
         match call {
             Call::WriteSetting { setting, value } => {
                 let place = &mut self.settings[setting as usize];
                 let change = *place != value;
                 *place = value;
                 if setting as usize == RECEIVE_MODE && change {
-                    self.receive.clear();
+                    self.receive.clear(at);
                 }
             }
             Call::InitiatedTest { .. } => {
-                self.receive.clear();
-                self.transmit.clear();
+                self.receive.clear(at);
+                self.transmit.clear(at);
             }
             Call::Arrival { word } => {
                 if values[0] == 4 {
-                    self.receive.remove(Fate::Overwritten)?;
+                    self.receive.remove(at, Fate::Overwritten)?;
                 }
                 if values[0] == 2 || values[0] == 4 {
-                    self.receive.accept(self.entry(word, stamp));
+                    self.receive.accept(at, self.entry(word, stamp));
                 }
             }
             Call::ReadFifo => {
-                let entry = self.receive.remove(Fate::Taken)?;
+                let entry = self.receive.remove(at, Fate::Taken)?;
                 same("receive FIFO read", &entry[..], values)?;
             }
-            Call::WriteTransmitFifo { word } => self.transmit.accept(word),
+            Call::WriteTransmitFifo { word } => self.transmit.accept(at, word),
             Call::Step if values[0] == 1 => {
                 // The word as sent has the parity of its own: D31 aside.
-                let word = self.transmit.remove(Fate::Taken)?;
+                let word = self.transmit.remove(at, Fate::Taken)?;
                 same("word sent, D31 aside", word << 1, values[1] << 1)?;
             }
             _ => {}

@@ -151,9 +151,9 @@ fn each_entry_has_one_fate_in_number_order() {
         ledger.check_words(&mem).unwrap();
     }
     ledger.check_fates().unwrap();
-    let fates: Vec<Fate> = ledger.channels[0].receive.entries.iter().map(|&(_, fate)| fate).collect();
+    let fates: Vec<_> = ledger.channels[0].receive.entries.iter().map(|e| (e.accepted_at, e.fate, e.fate_at)).collect();
     let (o, t, c, h) = (Fate::Overwritten, Fate::Taken, Fate::Cleared, Fate::Held);
-    assert_eq!(fates, [o, t, o, c, c, h]);
+    assert_eq!(fates, [(5, o, 7), (6, t, 8), (7, o, 10), (9, c, 11), (10, c, 11), (12, h, 0)]);
     assert_eq!(ledger.channels[0].counts()[..4], [6, 1, 2, 2]);
 }
 

@@ -98,3 +98,39 @@ module _ (plus : ℕ → ℕ → ℕ) (f : Fifo) where
   -- "the oldest is overwritten first, then the same": the overwritten are counted beside it
   abbrev pub overwrites : List ℕ → Fifo
   overwrites e = record { held = drop 1 (f .held) ++ (e ∷ []); accepted = plus (f .accepted) 1; taken = f .taken; cleared = f .cleared }
+
+-- what a call does to a FIFO
+pub data Change : Type 0 where
+  Stays : Change
+  -- an entry is accepted
+  Adds : List ℕ → Change
+  -- the oldest is overwritten, and an entry is accepted
+  Overwrites : List ℕ → Change
+  -- the oldest is taken out
+  Takes : Change
+  -- every entry is cleared
+  Clears : Change
+  -- power-up: "counts 0, none held"
+  Begins : Change
+
+abbrev pub noEntries : Fifo
+noEntries = record { held = []; accepted = 0; taken = 0; cleared = 0 }
+
+module _ (plus : ℕ → ℕ → ℕ) where
+  -- the FIFO after it
+  abbrev pub changed : Change → Fifo → Fifo
+  changed Stays f = f
+  changed (Adds e) f = accepts plus f e
+  changed (Overwrites e) f = overwrites plus f e
+  changed Takes f = gives plus f
+  changed Clears f = clears plus f
+  changed Begins f = noEntries
+
+  -- the count of the overwritten after it
+  abbrev pub overwrittenAfter : Change → ℕ → ℕ
+  overwrittenAfter Stays n = n
+  overwrittenAfter (Adds e) n = n
+  overwrittenAfter (Overwrites e) n = plus n 1
+  overwrittenAfter Takes n = n
+  overwrittenAfter Clears n = n
+  overwrittenAfter Begins n = 0

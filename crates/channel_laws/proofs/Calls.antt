@@ -1,8 +1,8 @@
 -- What every accepted call on a channel leaves.
 -- Assumes nothing.
-use mathlib.Core.Path.{_≡_, sym, ap, _∙_}
+use mathlib.Core.Path.{_≡_, refl, _∙_}
 use mathlib.Core.Bool.{Bool, true, false, cond}
-use mathlib.Core.List.{List}
+use mathlib.Core.List.{List, [], _∷_}
 use Prim.Native.Nat.{ℕ, _%_, _+_, _≤_, _<_, zero-le}
 use native.Mathlib.Omega.{arith}
 use lib.Dec.{eqb}
@@ -13,14 +13,16 @@ use Rattle.block.specs.Clearing.{counted, stopped}
 use Rattle.block.specs.Matching.{matchAt}
 use Rattle.block.specs.Status.{ruled, faultWeight}
 use Rattle.block.specs.Tests.{fifosCleared, tested}
-use Rattle.block.specs.Fifos.{receivePlaces, transmitPlaces, Fifo, fifo}
+use Rattle.block.specs.Fifos.{receivePlaces, transmitPlaces, Fifo, fifo, gives, Change, Stays, Adds, Takes, Clears, changed, overwrittenAfter}
 use Rattle.block.proofs.Sound.{in-range}
 use Rattle.block.proofs.Keeps.{stop-keeps, rule-keeps, clear-keeps, test-keeps, settable, write-keeps}
 use Rattle.receive.specs.Arrival.{arrival}
 use Rattle.receive.specs.Entries.{entryOf, mailboxAt}
-use Rattle.receive.specs.Fates.{receives}
+use Rattle.receive.specs.Fates.{arrivalChange}
 use Rattle.receive.proofs.Laws.{Leaves as ReceiveLeaves, entry-by-settings, arrive-keeps, arrive-leaves, arrive-fifo, arrive-overwritten, read-keeps, read-leaves, read-fifo, read-overwritten}
 use Rattle.transmit.proofs.Laws.{Leaves as TransmitLeaves, write-keeps as fifo-write-keeps, write-accepts, async-keeps, async-fifo, trigger-keeps, trigger-fifo, pause-keeps, pause-fifo, step-keeps, step-fifo}
+use Rattle.schedule.specs.Output.{isFifoWord}
+use Rattle.transmit.specs.Step.{stepOutput}
 use Rattle.channel.specs.Answers.{place}
 use Rattle.channel.specs.Refusals.{settingCallRefusal, statusCallRefusal, receiveCallRefusal, transmitCallRefusal, channelRefusal}
 use Rattle.channel.specs.Groups.{settingAfter, memoryAfter, statusAfter, testAfter, receiveAnswer, receiveAfter, transmitAnswer, transmitAfter}
@@ -43,7 +45,8 @@ use Rattle.channel.specs.declared.calls.TransmitCall.the-variants.{WriteFifo, W
 use Rattle.channel.specs.declared.calls.ChannelCall.{ChannelCall}
 use Rattle.channel.specs.declared.calls.ChannelCall.the-variants.{Settings, Memories, Status, Tests, Reads, Receive, Transmit}
 use Rattle.channel.specs.declared.calls.Given.{Given}
-use Rattle.channel_laws.specs.Kept.{Kept, keptOf, withReceive, withOverwritten, withTransmit, bothCleared, settingFate, testFate, receiveFate, transmitFate, keptAfter}
+use Rattle.channel.specs.declared.calls.Answer.{Answer}
+use Rattle.channel_laws.specs.Kept.{Kept, keptOf, keptBy, keptAfter}
 use Rattle.channel_laws.proofs.Holds.{Holds, here, parts, kept-setting, store-kept, stored, same-settings}
 use Rattle.channel_laws.proofs.Changes.{stop-kept, both-clear-kept, write-kept}
 
@@ -68,13 +71,14 @@ place-in AlmostFull = omega arith
 place-in AlmostEmpty = omega arith
 place-in Rate = omega arith
 
-setting-left : (k : SettingCall) {b : List ℕ} → Usable b → settingCallRefusal k b ≡ 0 → Holds (settingAfter k b) (settingFate counted k (keptOf b))
-setting-left (WriteSetting s v) {b} u e =
+setting-left : (stamp : ℕ) (k : SettingCall) (a : Answer) {b : List ℕ} → Usable b → settingCallRefusal k b ≡ 0
+    → Holds (settingAfter k b) (keptAfter counted stamp (Settings k) a (keptOf b))
+setting-left stamp (WriteSetting s v) a {b} u e =
     record {
       usable = write-keeps u (place s) v (place-in s) (settable (place s) v b e);
       is = write-kept b v (u .whole) (place s) (place-in s);
     }
-setting-left (ReadSetting s) u e = here u
+setting-left stamp (ReadSetting s) a u e = here u
 
 -- ---- memories, masks and tests
 
@@ -100,64 +104,68 @@ status-left (WriteLevelMask m) u e = stored (here u) levelMask m (omega arith) (
 status-left ReadLevelMask u e = here u
 status-left ReadPending u e = here u
 
-test-left : (k : TestCall) {b : List ℕ} → Usable b → Holds (testAfter k b) (testFate counted k (keptOf b))
+test-left : (stamp : ℕ) (k : TestCall) (a : Answer) {b : List ℕ} → Usable b → Holds (testAfter k b) (keptAfter counted stamp (Tests k) a (keptOf b))
 unfolding tested
-test-left (Sample r) u = here u
-test-left ResetTest u = here u
-test-left (InitiateTest r) {b} u = record { usable = test-keeps u r; is = go (eqb r 0) }
+test-left stamp (Sample r) a u = here u
+test-left stamp ResetTest a u = here u
+test-left stamp (InitiateTest r) a {b} u = record { usable = test-keeps u r; is = go (eqb r 0) }
   where
-    stop : keptOf (stopped (fifosCleared b)) ≡ bothCleared counted (keptOf b)
+    stop : keptOf (stopped (fifosCleared b)) ≡ keptBy counted (take settings b) Clears Clears (keptOf b)
     stop = stop-kept (fifosCleared b) ∙ both-clear-kept b (u .whole)
 
     go : (t : Bool) → keptOf (cond t (stopped (fifosCleared b)) (set (stopped (fifosCleared b)) latch (word b latch % faultWeight + faultWeight)))
-        ≡ bothCleared counted (keptOf b)
+        ≡ keptBy counted (take settings b) Clears Clears (keptOf b)
     go true = stop
     go false = store-kept (stopped (fifosCleared b)) latch _ (omega arith) ∙ stop
 
 -- ---- receiving
 
-received : {b c : List ℕ} {f : Fifo} {n : ℕ} → Usable b → Usable c → ReceiveLeaves b c → fifo receivePlaces c ≡ f → word c receiveOverwritten ≡ n
-    → Holds c (withOverwritten (withReceive (keptOf b) f) n)
-received {b} {c} u v l p q = record { usable = v; is = parts (same-settings b c (u .whole) (v .whole) (l .setting)) p q (l .transmit) }
+received : {b c : List ℕ} (r : Change) → Usable b → Usable c → ReceiveLeaves b c → fifo receivePlaces c ≡ changed counted r (fifo receivePlaces b)
+    → word c receiveOverwritten ≡ overwrittenAfter counted r (word b receiveOverwritten) → Holds c (keptBy counted (take settings b) r Stays (keptOf b))
+received {b} {c} r u v l p q = record { usable = v; is = parts (same-settings b c (u .whole) (v .whole) (l .setting)) p q (l .transmit) }
 
 receive-left : (stamp : ℕ) (k : ReceiveCall) {b : List ℕ} → Usable b → receiveCallRefusal k b ≡ 0
-    → Holds (receiveAfter stamp k b) (receiveFate counted stamp k (receiveAnswer k b) (keptOf b))
+    → Holds (receiveAfter stamp k b) (keptAfter counted stamp (Receive k) (receiveAnswer k b) (keptOf b))
 receive-left stamp (Arrive w) {b} u e =
-    received u (arrive-keeps u stamp w) (arrive-leaves u stamp w)
-    (arrive-fifo u stamp w ∙ ap (receives counted (arrival w b) (fifo receivePlaces b)) (sym entry))
-    (arrive-overwritten u stamp w)
+    rw entry (received (arrivalChange (arrival w b) (entryOf stamp w b)) u (arrive-keeps u stamp w) (arrive-leaves u stamp w) (arrive-fifo u stamp w) (arrive-overwritten u stamp w))
   where
     entry : entryOf stamp w (take settings b) ≡ entryOf stamp w b
     entry = entry-by-settings stamp w b (take settings b) (kept-setting b)
 receive-left stamp ReadFifo {b} u e =
-    received u (read-keeps u) (read-leaves b) (read-fifo u (not-below 1 (word b receiveLevel) 6 e)) (read-overwritten b)
+    received Takes u (read-keeps u) (read-leaves b) (read-fifo u (not-below 1 (word b receiveLevel) 6 e)) (read-overwritten b)
 receive-left stamp (ReadMailbox i) u e = stored (here u) (mailboxAt i) _ (omega arith) (λ h. absurd (omega arith))
 
 -- ---- the transmitter
 
-transmitted : {b c : List ℕ} {f : Fifo} → Usable b → TransmitLeaves b c → fifo transmitPlaces c ≡ f → Holds c (withTransmit (keptOf b) f)
-transmitted {b} {c} u l p =
+transmitted : {b c : List ℕ} (t : Change) → Usable b → TransmitLeaves b c → fifo transmitPlaces c ≡ changed counted t (fifo transmitPlaces b)
+    → Holds c (keptBy counted (take settings b) Stays t (keptOf b))
+transmitted {b} {c} t u l p =
     record { usable = l .usable; is = parts (same-settings b c (u .whole) (l .usable .whole) (l .settings)) (l .receive) (l .overwritten) p }
 
-transmit-left : (k : TransmitCall) {b : List ℕ} → Usable b → transmitCallRefusal k b ≡ 0
-    → Holds (transmitAfter k b) (transmitFate counted k (transmitAnswer k b) (keptOf b))
-transmit-left (WriteFifo w) {b} u e =
+-- the oldest is taken out only where a test holds
+takes-if : (t : Bool) (f : Fifo) → cond t (gives counted f) f ≡ changed counted (cond t Takes Stays) f
+takes-if true f = refl
+takes-if false f = refl
+
+transmit-left : (stamp : ℕ) (k : TransmitCall) {b : List ℕ} → Usable b → transmitCallRefusal k b ≡ 0
+    → Holds (transmitAfter k b) (keptAfter counted stamp (Transmit k) (transmitAnswer k b) (keptOf b))
+transmit-left stamp (WriteFifo w) {b} u e =
     let room : word b transmitLevel < 255 = omega (arith, not-above 254 (word b transmitLevel) 5 e) in
-    transmitted u (fifo-write-keeps u w room) (write-accepts u w room)
-transmit-left (WriteAsync w) {b} u e = transmitted u (async-keeps u w) (async-fifo b w)
-transmit-left Trigger {b} u e = transmitted u (trigger-keeps u) (trigger-fifo b)
-transmit-left Pause {b} u e = transmitted u (pause-keeps u) (pause-fifo b)
-transmit-left Stop {b} u e = record { usable = stop-keeps u; is = stop-kept b }
-transmit-left Step {b} u e = transmitted u (step-keeps u) (step-fifo u)
+    transmitted (Adds (w ∷ [])) u (fifo-write-keeps u w room) (write-accepts u w room)
+transmit-left stamp (WriteAsync w) {b} u e = transmitted Stays u (async-keeps u w) (async-fifo b w)
+transmit-left stamp Trigger {b} u e = transmitted Stays u (trigger-keeps u) (trigger-fifo b)
+transmit-left stamp Pause {b} u e = transmitted Stays u (pause-keeps u) (pause-fifo b)
+transmit-left stamp Stop {b} u e = record { usable = stop-keeps u; is = stop-kept b }
+transmit-left stamp Step {b} u e = transmitted (cond (isFifoWord (stepOutput b)) Takes Stays) u (step-keeps u) (step-fifo u ∙ takes-if (isFifoWord (stepOutput b)) (fifo transmitPlaces b))
 
 -- ---- every call
 
 pub left : (g : Given) (k : ChannelCall) {b : List ℕ} → Usable b → channelRefusal k b ≡ 0
     → Holds (blockAfter g k b) (keptAfter counted (g .stamp) k (blockAnswer g k b) (keptOf b))
-left g (Settings k) u e = ruled-holds (setting-left k u e) _ _
+left g (Settings k) {b} u e = ruled-holds (setting-left (g .stamp) k (blockAnswer g (Settings k) b) u e) _ _
 left g (Memories k) u e = ruled-holds (memory-left k u) _ _
 left g (Status k) u e = ruled-holds (status-left k u e) _ _
-left g (Tests k) u e = ruled-holds (test-left k u) _ _
+left g (Tests k) {b} u e = ruled-holds (test-left (g .stamp) k (blockAnswer g (Tests k) b) u) _ _
 left g (Reads k) u e = ruled-holds (here u) _ _
 left g (Receive k) u e = ruled-holds (receive-left (g .stamp) k u e) _ _
-left g (Transmit k) u e = ruled-holds (transmit-left k u e) _ _
+left g (Transmit k) u e = ruled-holds (transmit-left (g .stamp) k u e) _ _

@@ -13,11 +13,11 @@ use Rattle.block.specs.Layout.{word, settings, receiveMode, transmitMode, trans
 use Rattle.block.specs.Clearing.{counted, receiveFifoCleared, transmitFifoCleared, stopped, forgotten}
 use Rattle.block.specs.Settings.{receiveModeWritten, transmitModeWritten, transmitterWritten, written}
 use Rattle.block.specs.Tests.{fifosCleared}
-use Rattle.block.specs.Fifos.{receivePlaces, transmitPlaces, fifo, clears}
+use Rattle.block.specs.Fifos.{receivePlaces, transmitPlaces, fifo, clears, Change, Stays, Clears}
 use Rattle.block.proofs.Words.{words}
 use Rattle.block.proofs.Fifos.{receive-proper, transmit-proper, store-apart, clear-law}
-use Rattle.channel_laws.specs.Kept.{Kept, keptOf, withSettings, withSetting, withReceive, withTransmit, bothCleared, modeFate, settingWritten}
-use Rattle.channel_laws.proofs.Holds.{parts, kept-setting, store-kept}
+use Rattle.channel_laws.specs.Kept.{Kept, keptOf, settingChange, keptBy}
+use Rattle.channel_laws.proofs.Holds.{withSettings, withSetting, parts, kept-setting, store-kept}
 
 -- ---- the transmitter stopped
 
@@ -34,24 +34,24 @@ cleared-settings : (b : List ℕ) (i j v : ℕ) → settings ≤ i → settings 
 cleared-settings b i j v h l = take-set-le settings (set b i v) j 0 l ∙ take-set-le settings b i v h
 
 module _ (b : List ℕ) (w : Whole b) where
-  receive-clear-kept : keptOf (receiveFifoCleared b) ≡ withReceive (keptOf b) (clears counted (fifo receivePlaces b))
+  receive-clear-kept : keptOf (receiveFifoCleared b) ≡ keptBy counted (take settings b) Clears Stays (keptOf b)
   receive-clear-kept =
       parts (cleared-settings b receiveCleared receiveLevel _ (omega arith) (omega arith)) (clear-law receivePlaces receive-proper b w)
       (search words)
       (store-apart transmitPlaces (set b receiveCleared _) receiveLevel 0 (omega arith) (omega arith)
       ∙ store-apart transmitPlaces b receiveCleared _ (omega arith) (omega arith))
 
-  transmit-clear-kept : keptOf (transmitFifoCleared b) ≡ withTransmit (keptOf b) (clears counted (fifo transmitPlaces b))
+  transmit-clear-kept : keptOf (transmitFifoCleared b) ≡ keptBy counted (take settings b) Stays Clears (keptOf b)
   transmit-clear-kept =
       parts (cleared-settings b transmitCleared transmitLevel _ (omega arith) (omega arith))
       (store-apart receivePlaces (set b transmitCleared _) transmitLevel 0 (omega arith) (omega arith)
       ∙ store-apart receivePlaces b transmitCleared _ (omega arith) (omega arith))
       (search words) (clear-law transmitPlaces transmit-proper b w)
 
-pub both-clear-kept : (b : List ℕ) → Whole b → keptOf (fifosCleared b) ≡ bothCleared counted (keptOf b)
+pub both-clear-kept : (b : List ℕ) → Whole b → keptOf (fifosCleared b) ≡ keptBy counted (take settings b) Clears Clears (keptOf b)
 both-clear-kept b w =
     transmit-clear-kept (receiveFifoCleared b) (search words)
-    ∙ ap (λ (h : Kept). withTransmit h (clears counted (h .transmit))) (receive-clear-kept b w)
+    ∙ ap (λ (h : Kept). keptBy counted (h .settings) Stays Clears h) (receive-clear-kept b w)
 
 -- ---- a setting written
 
@@ -77,12 +77,13 @@ settings-kept b s (v ∷ e) h =
     ∙ ap (λ (k : Kept). withSettings k (take settings (sets (set b s v) (suc s) e))) (setting-kept b s v (omega arith))
 
 module _ (b : List ℕ) (v : ℕ) where
-  receive-mode-kept : Whole b → keptOf (receiveModeWritten v b) ≡ withSetting (withReceive (keptOf b) (modeFate counted v (keptOf b))) receiveMode v
+  receive-mode-kept : Whole b → keptOf (receiveModeWritten v b)
+      ≡ keptBy counted (set (take settings b) receiveMode v) (cond (eqb (word (take settings b) receiveMode) v) Stays Clears) Stays (keptOf b)
   receive-mode-kept w = rw (kept-setting b receiveMode (omega arith)) (go (eqb (word b receiveMode) v) refl)
     where
       go : (t : Bool) → eqb (word b receiveMode) v ≡ t
           → keptOf (cond t b (set (receiveFifoCleared b) receiveMode v))
-          ≡ withSetting (withReceive (keptOf b) (cond t (fifo receivePlaces b) (clears counted (fifo receivePlaces b)))) receiveMode v
+          ≡ keptBy counted (set (take settings b) receiveMode v) (cond t Stays Clears) Stays (keptOf b)
       go true e = already b receiveMode v (omega arith) (eqb-true (word b receiveMode) v e)
       go false e =
           setting-kept (receiveFifoCleared b) receiveMode v (omega arith) ∙ ap (λ (h : Kept). withSetting h receiveMode v) (receive-clear-kept b w)
@@ -104,13 +105,14 @@ module _ (b : List ℕ) (v : ℕ) where
       go true = forgotten-kept transmitter (omega arith)
       go false = setting-kept b transmitter v (omega arith)
 
-  pub write-kept : Whole b → (s : ℕ) → s < settings → keptOf (written s v b) ≡ settingWritten counted s v (keptOf b)
+  pub write-kept : Whole b → (s : ℕ) → s < settings
+      → keptOf (written s v b) ≡ keptBy counted (set (take settings b) s v) (settingChange s v (take settings b)) Stays (keptOf b)
   unfolding written
   write-kept w s h = go (eqb s receiveMode) (eqb s transmitMode) (eqb s transmitter) refl refl refl
     where
       go : (p q r : Bool) → eqb s receiveMode ≡ p → eqb s transmitMode ≡ q → eqb s transmitter ≡ r
           → keptOf (cond p (receiveModeWritten v b) (cond q (transmitModeWritten v b) (cond r (transmitterWritten v b) (set b s v))))
-          ≡ withSetting (withReceive (keptOf b) (cond p (modeFate counted v (keptOf b)) (fifo receivePlaces b))) s v
+          ≡ keptBy counted (set (take settings b) s v) (cond p (cond (eqb (word (take settings b) receiveMode) v) Stays Clears) Stays) Stays (keptOf b)
       go true q r x y z = rw (eqb-true s receiveMode x) (receive-mode-kept w)
       go false true r x y z = rw (eqb-true s transmitMode y) transmit-mode-kept
       go false false true x y z = rw (eqb-true s transmitter z) transmitter-kept

@@ -24,6 +24,13 @@ pub record Holds (c : List ℕ) (h : Kept) : Type 0 where
 pub here : {b : List ℕ} → Usable b → Holds b (keptOf b)
 here u = record { usable = u; is = refl }
 
+-- what is kept with other settings, and with another value of one
+abbrev pub withSettings : Kept → List ℕ → Kept
+withSettings h l = record { settings = l; receive = h .receive; overwritten = h .overwritten; transmit = h .transmit }
+
+abbrev pub withSetting : Kept → ℕ → ℕ → Kept
+withSetting h s v = withSettings h (set (h .settings) s v)
+
 -- what is kept, by its parts
 pub parts : {l l′ : List ℕ} {r r′ t t′ : Fifo} {n n′ : ℕ} → l ≡ l′ → r ≡ r′ → n ≡ n′ → t ≡ t′
     → _≡_ {A = Kept} (record { settings = l; receive = r; overwritten = n; transmit = t })

@@ -7,20 +7,16 @@ use lib.Dec.{eqb}
 use lib.ListN.{take, set}
 use Rattle.block.specs.Layout.{word, settings, receiveMode, receiveOverwritten}
 use Rattle.block.specs.Factory.{factorySettings}
-use Rattle.block.specs.Fifos.{receivePlaces, transmitPlaces, Fifo, fifo, accepts, gives, clears}
+use Rattle.block.specs.Fifos.{receivePlaces, transmitPlaces, Fifo, fifo, noEntries, Change, Stays, Adds, Takes, Clears, changed, overwrittenAfter}
 use Rattle.schedule.specs.Output.{isFifoWord}
 use Rattle.receive.specs.Entries.{entryOf}
-use Rattle.receive.specs.Fates.{receives, overwrittenBy}
+use Rattle.receive.specs.Fates.{arrivalChange}
 use Rattle.receive.specs.declared.Arrival.{Arrival}
 use Rattle.receive.specs.declared.Arrival.the-variants.{Ignored}
 use Rattle.channel.specs.Answers.{place}
-use Rattle.channel.specs.declared.calls.SettingCall.{SettingCall}
 use Rattle.channel.specs.declared.calls.SettingCall.the-variants.{WriteSetting, ReadSetting}
-use Rattle.channel.specs.declared.calls.TestCall.{TestCall}
 use Rattle.channel.specs.declared.calls.TestCall.the-variants.{Sample, ResetTest, InitiateTest}
-use Rattle.channel.specs.declared.calls.ReceiveCall.{ReceiveCall}
 use Rattle.channel.specs.declared.calls.ReceiveCall.the-variants.{Arrive, ReadFifo, ReadMailbox}
-use Rattle.channel.specs.declared.calls.TransmitCall.{TransmitCall}
 use Rattle.channel.specs.declared.calls.TransmitCall.the-variants.{WriteFifo, WriteAsync, Trigger, Pause, Stop, Step}
 use Rattle.channel.specs.declared.calls.ChannelCall.{ChannelCall}
 use Rattle.channel.specs.declared.calls.ChannelCall.the-variants.{Settings, Memories, Status, Tests, Reads, Receive, Transmit}
@@ -46,24 +42,6 @@ keptOf b =
       transmit = fifo transmitPlaces b;
     }
 
-module _ (h : Kept) where
-  -- with other settings, and with another value of one
-  abbrev pub withSettings : List ℕ → Kept
-  withSettings l = record { settings = l; receive = h .receive; overwritten = h .overwritten; transmit = h .transmit }
-
-  abbrev pub withSetting : ℕ → ℕ → Kept
-  withSetting s v = withSettings (set (h .settings) s v)
-
-  -- with another receive FIFO, count of the overwritten or transmit FIFO
-  abbrev pub withReceive : Fifo → Kept
-  withReceive f = record { settings = h .settings; receive = f; overwritten = h .overwritten; transmit = h .transmit }
-
-  abbrev pub withOverwritten : ℕ → Kept
-  withOverwritten n = record { settings = h .settings; receive = h .receive; overwritten = n; transmit = h .transmit }
-
-  abbrev pub withTransmit : Fifo → Kept
-  withTransmit f = record { settings = h .settings; receive = h .receive; overwritten = h .overwritten; transmit = f }
-
 -- ---- what an answer says
 
 -- the arrival's outcome: an answer to another call has none
@@ -88,66 +66,78 @@ givesWord (Arrived a) = false
 givesWord (Entry s w t) = false
 givesWord (Stepped o) = isFifoWord o
 
--- ---- what becomes of it
+-- ---- what an accepted call does, by its answer
+
+-- the settings: one is written
+abbrev pub settingsAfter : ChannelCall → List ℕ → List ℕ
+settingsAfter (Settings (WriteSetting s v)) l = set l (place s) v
+settingsAfter (Settings (ReadSetting s)) l = l
+settingsAfter (Memories k) l = l
+settingsAfter (Status k) l = l
+settingsAfter (Tests k) l = l
+settingsAfter (Reads k) l = l
+settingsAfter (Receive k) l = l
+settingsAfter (Transmit k) l = l
+
+-- "A change of receive mode clears the receive FIFO; writing the same mode doesn't.": setting s written with v
+abbrev pub settingChange : ℕ → ℕ → List ℕ → Change
+settingChange s v l = cond (eqb s receiveMode) (cond (eqb (word l receiveMode) v) Stays Clears) Stays
+
+-- the receive FIFO, at a stamp and by the settings. "Arrival answered as appended: the entry of Receive, by this state, is added; as overwriting:
+-- the oldest is overwritten first, then the same. FIFO read: the oldest is taken out"; "initiated test: .. what they clear counted";
+-- "Any other call .. nothing"
+abbrev pub receiveChange : ℕ → ChannelCall → Answer → List ℕ → Change
+receiveChange stamp (Settings (WriteSetting s v)) a l = settingChange (place s) v l
+receiveChange stamp (Settings (ReadSetting s)) a l = Stays
+receiveChange stamp (Memories k) a l = Stays
+receiveChange stamp (Status k) a l = Stays
+receiveChange stamp (Tests (Sample r)) a l = Stays
+receiveChange stamp (Tests ResetTest) a l = Stays
+receiveChange stamp (Tests (InitiateTest r)) a l = Clears
+receiveChange stamp (Reads k) a l = Stays
+receiveChange stamp (Receive (Arrive w)) a l = arrivalChange (arrivalOf a) (entryOf stamp w l)
+receiveChange stamp (Receive ReadFifo) a l = Takes
+receiveChange stamp (Receive (ReadMailbox i)) a l = Stays
+receiveChange stamp (Transmit k) a l = Stays
+
+-- the transmit FIFO. "Transmit FIFO write: the word is added. Immediate or triggered step that gives a word: the oldest is taken out"
+abbrev pub transmitChange : ChannelCall → Answer → Change
+transmitChange (Settings k) a = Stays
+transmitChange (Memories k) a = Stays
+transmitChange (Status k) a = Stays
+transmitChange (Tests (Sample r)) a = Stays
+transmitChange (Tests ResetTest) a = Stays
+transmitChange (Tests (InitiateTest r)) a = Clears
+transmitChange (Reads k) a = Stays
+transmitChange (Receive k) a = Stays
+transmitChange (Transmit (WriteFifo w)) a = Adds (w ∷ [])
+transmitChange (Transmit (WriteAsync w)) a = Stays
+transmitChange (Transmit Trigger) a = Stays
+transmitChange (Transmit Pause) a = Stays
+transmitChange (Transmit Stop) a = Stays
+transmitChange (Transmit Step) a = cond (givesWord a) Takes Stays
+
+-- ---- what becomes of what is kept
 
 module _ (plus : ℕ → ℕ → ℕ) where
-  -- both FIFOs cleared
-  abbrev pub bothCleared : Kept → Kept
-  bothCleared h = withTransmit (withReceive h (clears plus (h .receive))) (clears plus (h .transmit))
+  -- with other settings, a change of the receive FIFO and one of the transmit FIFO
+  abbrev pub keptBy : List ℕ → Change → Change → Kept → Kept
+  keptBy l r t h =
+      record {
+        settings = l;
+        receive = changed plus r (h .receive);
+        overwritten = overwrittenAfter plus r (h .overwritten);
+        transmit = changed plus t (h .transmit);
+      }
 
-  -- "A change of receive mode clears the receive FIFO; writing the same mode doesn't."
-  abbrev pub modeFate : ℕ → Kept → Fifo
-  modeFate v h = cond (eqb (word (h .settings) receiveMode) v) (h .receive) (clears plus (h .receive))
-
-  -- setting s written
-  abbrev pub settingWritten : ℕ → ℕ → Kept → Kept
-  settingWritten s v h = withSetting (withReceive h (cond (eqb s receiveMode) (modeFate v h) (h .receive))) s v
-
-  abbrev pub settingFate : SettingCall → Kept → Kept
-  settingFate (WriteSetting s v) h = settingWritten (place s) v h
-  settingFate (ReadSetting s) h = h
-
-  -- "initiated test: .. what they clear counted"
-  abbrev pub testFate : TestCall → Kept → Kept
-  testFate (Sample r) h = h
-  testFate ResetTest h = h
-  testFate (InitiateTest r) h = bothCleared h
-
-  -- "Arrival answered as appended: the entry of Receive, by this state, is added; as overwriting: the oldest is overwritten first, then the same."
-  -- "FIFO read: the oldest is taken out"
-  abbrev pub receiveFate : ℕ → ReceiveCall → Answer → Kept → Kept
-  receiveFate stamp (Arrive w) a h =
-      withOverwritten (withReceive h (receives plus (arrivalOf a) (h .receive) (entryOf stamp w (h .settings))))
-      (overwrittenBy plus (arrivalOf a) (h .overwritten))
-  receiveFate stamp ReadFifo a h = withReceive h (gives plus (h .receive))
-  receiveFate stamp (ReadMailbox i) a h = h
-
-  -- "Transmit FIFO write: the word is added. Immediate or triggered step that gives a word: the oldest is taken out"
-  abbrev pub transmitFate : TransmitCall → Answer → Kept → Kept
-  transmitFate (WriteFifo w) a h = withTransmit h (accepts plus (h .transmit) (w ∷ []))
-  transmitFate (WriteAsync w) a h = h
-  transmitFate Trigger a h = h
-  transmitFate Pause a h = h
-  transmitFate Stop a h = h
-  transmitFate Step a h = withTransmit h (cond (givesWord a) (gives plus (h .transmit)) (h .transmit))
-
-  -- an accepted call with its answer, at a stamp; "Any other call .. nothing"
+  -- an accepted call with its answer, at a stamp
   abbrev pub keptAfter : ℕ → ChannelCall → Answer → Kept → Kept
-  keptAfter stamp (Settings k) a h = settingFate k h
-  keptAfter stamp (Memories k) a h = h
-  keptAfter stamp (Status k) a h = h
-  keptAfter stamp (Tests k) a h = testFate k h
-  keptAfter stamp (Reads k) a h = h
-  keptAfter stamp (Receive k) a h = receiveFate stamp k a h
-  keptAfter stamp (Transmit k) a h = transmitFate k a h
+  keptAfter stamp k a h = keptBy (settingsAfter k (h .settings)) (receiveChange stamp k a (h .settings)) (transmitChange k a) h
 
   -- a module reset: "all FIFOs cleared .., settings to factory"
   abbrev pub keptReset : Kept → Kept
-  keptReset h = withSettings (bothCleared h) factorySettings
+  keptReset h = keptBy factorySettings Clears Clears h
 
 -- "Accepted power-up: factory settings, .. counts 0, none held."
-abbrev pub noEntries : Fifo
-noEntries = record { held = []; accepted = 0; taken = 0; cleared = 0 }
-
 abbrev pub keptFirst : Kept
 keptFirst = record { settings = factorySettings; receive = noEntries; overwritten = 0; transmit = noEntries }

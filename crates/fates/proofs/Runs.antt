@@ -1,12 +1,13 @@
 -- After any list of calls that starts with an accepted power-up the memory agrees with the history.
 -- Assumes nothing.
 use Prim.Native.Nat.{ℕ}
-use mathlib.Core.Path.{_≡_, refl}
+use mathlib.Core.Path.{_≡_, refl, ap}
 use mathlib.Core.Bool.{Bool, true, false, cond}
 use mathlib.Core.List.{List, [], _∷_, _++_}
 use borrow.Author.Tests.{eqb-true}
 use lib.Dec.{eqb}
 use lib.ListN.{length, take, drop}
+use Rattle.channel.specs.declared.calls.Answer.{Answer}
 use Rattle.channel.specs.declared.calls.Answer.the-variants.{Done, Refused}
 use Rattle.power.specs.Power.{powerRefusal, powered}
 use Rattle.module.specs.Perform.{answer}
@@ -38,3 +39,11 @@ pub agrees : (k n : ℕ) (cs : List (ℕ × Call)) (m : List ℕ) → isRefused 
     let calls : List (ℕ × Call) = (k, PowerUp n) ∷ cs in
     Agrees (history (events calls m) start) (run calls m)
 agrees k n cs m e = runs cs _ (lent k (PowerUp n) m) (starts k n m e)
+
+-- every answer is the one that the description gives on the words lent, as the calls before left them
+pub answered : (before : List (ℕ × Call)) (k : ℕ) (c : Call) (rest : List (ℕ × Call)) (m : List ℕ)
+    → events (before ++ (k, c) ∷ rest) m
+    ≡ events before m ++ (c, answer c (take k (run before m))) ∷ events rest (run (before ++ (k, c) ∷ []) m)
+answered [] k c rest m = refl
+answered (x ∷ before) k c rest m =
+    ap (λ (es : List (Call × Answer)). (x .1, answer (x .1) (take (x .0) m)) ∷ es) (answered before k c rest (lent (x .0) (x .1) m))

@@ -1,13 +1,13 @@
 -- One call, lent the first words of a memory that agrees with the history.
 -- Assumes nothing.
-use Prim.Native.Nat.{ℕ, _+_, _%_, _^_, _≤_}
+use Prim.Native.Nat.{ℕ, _+_, _%_, _^_, _≤_, _<_}
 use mathlib.Core.Path.{_≡_, refl, sym, ap, _∙_, subst}
 use mathlib.Core.Bool.{Bool, true, false, cond}
 use mathlib.Core.List.{List, _++_}
 use native.Mathlib.Omega.{arith}
 use borrow.Author.Tests.{eqb-true, eqb-false, ltb-true, ltb-false}
 use lib.Dec.{eqb, ltb}
-use lib.ListN.{length, take, drop, take-append-drop}
+use lib.ListN.{length, take, drop, set, take-append-drop}
 use lib.Seq.{getD-set-same, getD-set-other}
 use Rattle.block.specs.Layout.{word}
 use Rattle.block.specs.Clearing.{counted}
@@ -15,10 +15,12 @@ use Rattle.channel.specs.Channel.{blockAnswer, blockAfter}
 use Rattle.channel.specs.declared.calls.Answer.{Answer}
 use Rattle.channel.specs.declared.calls.Answer.the-variants.{Done, Refused}
 use Rattle.channel.specs.declared.calls.ChannelCall.{ChannelCall}
-use Rattle.channel_laws.specs.Kept.{keptOf, keptAfter}
+use Rattle.channel_laws.specs.Kept.{Kept, keptOf, keptAfter, keptReset}
 use Rattle.channel_laws.proofs.Calls.{left}
-use Rattle.frame.specs.Layout.{count, stamp, resolution, threshold, need, block}
+use Rattle.frame.specs.Layout.{count, stamp, resolution, threshold, moduleWords, need, block}
+use Rattle.frame.specs.Refusals.{wideRefusal}
 use Rattle.power.specs.Power.{powerRefusal, powered}
+use Rattle.reset.specs.Reset.{moduleReset}
 use Rattle.wide.specs.Refusals.{callRefusal}
 use Rattle.wide.specs.OnModule.{wideAnswer, wideStored, wideAfter}
 use Rattle.wide.specs.declared.calls.WideCall.{WideCall}
@@ -26,13 +28,14 @@ use Rattle.wide.specs.declared.calls.WideCall.the-variants.{AdvanceStamp, ZeroS
 use Rattle.module.specs.OnChannel.{onRefusal, givenOf, acceptedAfter}
 use Rattle.module.specs.Perform.{answer, after}
 use Rattle.module.specs.declared.calls.Call.{Call}
-use Rattle.module.specs.declared.calls.Call.the-variants.{PowerUp, Wide, On}
+use Rattle.module.specs.declared.calls.Call.the-variants.{PowerUp, Reset, Wide, On}
 use Rattle.module_laws.specs.Reduced.{reduced}
-use Rattle.module_laws.proofs.Rolls.{rolls, first-rolls}
+use Rattle.module_laws.proofs.Rolls.{rolls, reset-rolls, first-rolls}
 use Rattle.module_laws.proofs.OnChannel.{on-within, on-call, on-word, on-same, on-other, on-sane}
-use Rattle.module_laws.proofs.OnModule.{wide-sane, wide-count, wide-stamp, wide-kept}
-use Rattle.module_laws.proofs.Lent.{Alike, Short, front, front-on, front-wide, short-on, short-wide, powered-count, powered-stamp, powered-kept, powered-sane}
-use Rattle.fates.specs.History.{History, poweredUp, stampAfter, acceptedStep, historyStep}
+use Rattle.module_laws.proofs.OnModule.{wide-sane, wide-count, wide-word, wide-kept}
+use Rattle.module_laws.proofs.Reset.{reset-sane, reset-word, reset-kept}
+use Rattle.module_laws.proofs.Lent.{Alike, Short, front, front-on, front-wide, front-reset, short-on, short-wide, short-reset, powered-word, powered-kept, powered-sane}
+use Rattle.fates.specs.History.{History, poweredUp, wideStep, acceptedStep, historyStep}
 use Rattle.fates.specs.Run.{lent}
 use Rattle.fates.specs.Agrees.{Agrees}
 use Rattle.fates.proofs.Accepted.{block-accepted, wide-accepted}
@@ -43,8 +46,10 @@ pub powers : (n : ℕ) (l r : List ℕ) → powerRefusal n (length l) ≡ 0 → 
 powers n l r e =
     record {
       sane = powered-sane n l r e;
-      count = powered-count n l r;
-      stamp = powered-stamp n l r;
+      count = powered-word n l r count (omega arith);
+      stamp = powered-word n l r stamp (omega arith);
+      resolution = powered-word n l r resolution (omega arith);
+      threshold = powered-word n l r threshold (omega arith);
       kept = λ ch p q. powered-kept n l r ch p q ∙ sym first-rolls;
     }
 
@@ -77,6 +82,8 @@ module _ {h : History} {m : List ℕ} (g : Agrees h m) where
             sane = on-sane ch k m e (g .sane);
             count = on-word ch k m e count (omega arith) ∙ g .count;
             stamp = on-word ch k m e stamp (omega arith) ∙ g .stamp;
+            resolution = on-word ch k m e resolution (omega arith) ∙ g .resolution;
+            threshold = on-word ch k m e threshold (omega arith) ∙ g .threshold;
             kept = λ ch′ p q. each ch′ p q (eqb ch ch′) refl;
           }
 
@@ -85,26 +92,89 @@ module _ {h : History} {m : List ℕ} (g : Agrees h m) where
     on-step true e = rw (block-accepted k (blockAfter (givenOf ch k m) k (block m ch)) (block m ch)) (on-accepted (eqb-true _ _ e))
     on-step false e = g
 
-  -- a module-wide call
-  stored : (k : WideCall) → word (wideStored k m) stamp ≡ stampAfter k (h .stamp)
-  stored (AdvanceStamp n) = getD-set-same m stamp _ 0 (omega (arith, g .sane .frame)) ∙ ap (λ (x : ℕ). (x + n) % 2 ^ 32) (g .stamp)
-  stored ZeroStamp = getD-set-same m stamp 0 0 (omega (arith, g .sane .frame))
-  stored ReadStamp = g .stamp
-  stored (WriteResolution x) = getD-set-other m resolution stamp x 0 (omega arith) ∙ g .stamp
-  stored ReadResolution = g .stamp
-  stored (WriteThreshold x) = getD-set-other m threshold stamp x 0 (omega arith) ∙ g .stamp
-  stored ReadThreshold = g .stamp
+  -- a module reset
+  reset-step : (t : Bool) → eqb (wideRefusal m) 0 ≡ t
+      → Agrees (historyStep Reset (cond t Done (Refused (wideRefusal m))) h) (cond t (moduleReset m) m)
+  reset-step true e =
+      record {
+        sane = reset-sane (g .sane);
+        count = reset-word (g .sane) count (omega arith) ∙ g .count;
+        stamp = reset-word (g .sane) stamp (omega arith);
+        resolution = reset-word (g .sane) resolution (omega arith);
+        threshold = reset-word (g .sane) threshold (omega arith);
+        kept =
+            λ ch p q. reset-kept (g .sane) ch p (rw (g .count) q) ∙ ap (keptReset counted) (g .kept ch p q) ∙ sym (reset-rolls (h .kept ch));
+      }
+  reset-step false e = g
+
+  -- a call of the stamp or of the fault threshold: what is stored, and what the history keeps then
+  record Stored (k : WideCall) : Type 0 where
+    stored-stamp : word (wideStored k m) stamp ≡ wideStep k h .stamp
+    stored-resolution : word (wideStored k m) resolution ≡ wideStep k h .resolution
+    stored-threshold : word (wideStored k m) threshold ≡ wideStep k h .threshold
+    count-same : h .count ≡ wideStep k h .count
+    kept-same : h .kept ≡ wideStep k h .kept
+
+  -- a word of the module part written, and the others
+  here : (i v : ℕ) → i < moduleWords → word (set m i v) i ≡ v
+  here i v l = getD-set-same m i v 0 (omega (arith, g .sane .frame))
+
+  there : (i j v : ℕ) {x : ℕ} → (j ≡ i → ⊥) → word m j ≡ x → word (set m i v) j ≡ x
+  there i j v ne e = getD-set-other m i j v 0 ne ∙ e
+
+  stored : (k : WideCall) → Stored k
+  stored (AdvanceStamp n) =
+      record {
+        stored-stamp = here stamp _ (omega arith) ∙ ap (λ (x : ℕ). (x + n) % 2 ^ 32) (g .stamp);
+        stored-resolution = there stamp resolution _ (omega arith) (g .resolution);
+        stored-threshold = there stamp threshold _ (omega arith) (g .threshold);
+        count-same = refl;
+        kept-same = refl;
+      }
+  stored ZeroStamp =
+      record {
+        stored-stamp = here stamp 0 (omega arith);
+        stored-resolution = there stamp resolution 0 (omega arith) (g .resolution);
+        stored-threshold = there stamp threshold 0 (omega arith) (g .threshold);
+        count-same = refl;
+        kept-same = refl;
+      }
+  stored (WriteResolution x) =
+      record {
+        stored-stamp = there resolution stamp x (omega arith) (g .stamp);
+        stored-resolution = here resolution x (omega arith);
+        stored-threshold = there resolution threshold x (omega arith) (g .threshold);
+        count-same = refl;
+        kept-same = refl;
+      }
+  stored (WriteThreshold x) =
+      record {
+        stored-stamp = there threshold stamp x (omega arith) (g .stamp);
+        stored-resolution = there threshold resolution x (omega arith) (g .resolution);
+        stored-threshold = here threshold x (omega arith);
+        count-same = refl;
+        kept-same = refl;
+      }
+  stored ReadStamp = record { stored-stamp = g .stamp; stored-resolution = g .resolution; stored-threshold = g .threshold; count-same = refl; kept-same = refl }
+  stored ReadResolution = record { stored-stamp = g .stamp; stored-resolution = g .resolution; stored-threshold = g .threshold; count-same = refl; kept-same = refl }
+  stored ReadThreshold = record { stored-stamp = g .stamp; stored-resolution = g .resolution; stored-threshold = g .threshold; count-same = refl; kept-same = refl }
 
   wide-step : (k : WideCall) (t : Bool) → eqb (callRefusal k m) 0 ≡ t
       → Agrees (historyStep (Wide k) (cond t (wideAnswer k m) (Refused (callRefusal k m))) h) (cond t (wideAfter k m) m)
   wide-step k true z =
       let e = eqb-true (callRefusal k m) 0 z in
+      let s = stored k in
+      let w = wide-word (g .sane) k e in
       rw (wide-accepted k m)
       (record {
         sane = wide-sane (g .sane) k e;
-        count = wide-count (g .sane) k e ∙ g .count;
-        stamp = wide-stamp (g .sane) k e ∙ stored k;
-        kept = λ ch p q. wide-kept (g .sane) k e ch p (rw (g .count) q) ∙ g .kept ch p q;
+        count = wide-count (g .sane) k e ∙ g .count ∙ s .count-same;
+        stamp = w stamp (omega arith) ∙ s .stored-stamp;
+        resolution = w resolution (omega arith) ∙ s .stored-resolution;
+        threshold = w threshold (omega arith) ∙ s .stored-threshold;
+        kept =
+            λ ch p q. let q′ : ch ≤ h .count = rw (s .count-same) q in
+            wide-kept (g .sane) k e ch p (rw (g .count) q′) ∙ g .kept ch p q′ ∙ ap (λ (f : ℕ → Kept). reduced (f ch)) (s .kept-same);
       })
   wide-step k false e = g
 
@@ -125,6 +195,9 @@ module _ {h : History} (l r : List ℕ) (g : Agrees h (l ++ r)) where
   -- by whether enough words are lent
   by-length : (c : Call) (t : Bool) → ltb (length l) (need (word (l ++ r) count)) ≡ t → Agrees (historyStep c (answer c l) h) (after c l ++ r)
   by-length (PowerUp n) t e = power-step n (eqb (powerRefusal n (length l)) 0) refl
+  by-length Reset true e = short Reset (short-reset l r (g .sane) (ltb-true _ _ e))
+  by-length Reset false e =
+      alike Reset (front-reset (front l r (g .sane) (ltb-false _ _ e))) (reset-step g (eqb (wideRefusal (l ++ r)) 0) refl)
   by-length (Wide k) true e = short (Wide k) (short-wide l r (g .sane) (ltb-true _ _ e) k)
   by-length (Wide k) false e =
       alike (Wide k) (front-wide (front l r (g .sane) (ltb-false _ _ e)) k) (wide-step g k (eqb (callRefusal k (l ++ r)) 0) refl)

@@ -25,7 +25,7 @@ use Rattle.frame.specs.Layout.{count, need, block}
 use Rattle.module.specs.OnChannel.{onRefusal, givenOf}
 use Rattle.module.specs.Perform.{answer}
 use Rattle.module.specs.declared.calls.Call.{Call}
-use Rattle.module.specs.declared.calls.Call.the-variants.{PowerUp, Wide, On}
+use Rattle.module.specs.declared.calls.Call.the-variants.{PowerUp, Reset, Wide, On}
 use Rattle.module_laws.specs.Reduced.{reducedFifo, reduced}
 use Rattle.module_laws.proofs.OnChannel.{on-within, on-call}
 use Rattle.module_laws.proofs.Lent.{front, front-on, short-on}
@@ -89,6 +89,7 @@ module _ {h : History} (l r : List ℕ) (g : Agrees h (l ++ r)) where
 
   lent-told : (c : Call) → CallTold c (answer c l) h
   lent-told (PowerUp n) = tt
+  lent-told Reset = tt
   lent-told (Wide k) = tt
   lent-told (On ch k) = by-length ch k (ltb (length l) (need (word (l ++ r) count))) refl
 

@@ -4,14 +4,16 @@ use mathlib.Core.Path.{_≡_}
 use mathlib.Core.List.{List}
 use Rattle.block.specs.Layout.{word}
 use Rattle.channel_laws.specs.Kept.{keptOf}
-use Rattle.frame.specs.Layout.{count, stamp, block}
+use Rattle.frame.specs.Layout.{count, stamp, resolution, threshold, block}
 use Rattle.module_laws.specs.Sane.{Sane}
 use Rattle.module_laws.specs.Reduced.{reduced}
 use Rattle.fates.specs.History.{History}
 
--- the held entries and the settings are the history's, "Each is a 32-bit count that rolls over"
+-- stamp, settings and held entries are the history's; "Each is a 32-bit count that rolls over"
 pub record Agrees (h : History) (m : List ℕ) : Type 0 where
   pub sane : Sane m
   pub count : word m count ≡ h .count
   pub stamp : word m stamp ≡ h .stamp
+  pub resolution : word m resolution ≡ h .resolution
+  pub threshold : word m threshold ≡ h .threshold
   pub kept : (ch : ℕ) → 1 ≤ ch → ch ≤ h .count → keptOf (block m ch) ≡ reduced (h .kept ch)

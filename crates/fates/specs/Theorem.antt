@@ -1,32 +1,93 @@
--- What holds after every list of calls of which the first is an accepted power-up (paper 01, "Fates").
-use Prim.Native.Nat.{ℕ}
+-- Demand 3: what holds after every list of calls of which the first is an accepted power-up.
+use Prim.Native.Nat.{ℕ, _+_, _≤_}
 use mathlib.Core.Path.{_≡_}
 use mathlib.Core.Bool.{false}
-use mathlib.Core.List.{List, [], _∷_}
-use lib.ListN.{take}
+use mathlib.Core.List.{List, [], _∷_, _++_, map}
+use lib.ListN.{length, take}
+use Rattle.block.specs.Layout.{word, receiveOverwritten}
+use Rattle.block.specs.Fifos.{Places, receivePlaces, transmitPlaces, fifo}
 use Rattle.channel.specs.declared.calls.Answer.{Answer}
+use Rattle.channel_laws.specs.Kept.{Kept}
+use Rattle.frame.specs.Layout.{block}
 use Rattle.module.specs.Perform.{answer}
 use Rattle.module.specs.declared.calls.Call.{Call}
-use Rattle.module.specs.declared.calls.Call.the-variants.{PowerUp, Wide, On}
+use Rattle.module.specs.declared.calls.Call.the-variants.{PowerUp, Reset, Wide, On}
+use Rattle.module_laws.specs.Reduced.{rolled}
 use Rattle.fates.specs.Run.{run, events}
-use Rattle.fates.specs.History.{start, isRefused, history}
+use Rattle.fates.specs.History.{History, start, isRefused, history}
 use Rattle.fates.specs.Agrees.{Agrees}
 use Rattle.fates.specs.Tells.{AllTold}
-use Rattle.fates.specs.Conserved.{AllConserved}
+use Rattle.fates.specs.Ledger.{TakenOut, Cleared, Overwritten, Ledger, departed, remaining, number, withFate, entries, Side, Receiving, Transmitting, fifoOf, overwrittenOf, ledger}
+use Rattle.fates.specs.GivenOut.{givenOut, aside}
+use Rattle.fates.specs.Accounts.{Accounts, NeverEmpty}
 
--- an accepted power-up
+-- ---- "The first is an accepted power-up."
+
 abbrev pub PoweredUp : Call → Answer → Type 0
 PoweredUp (PowerUp n) a = isRefused a ≡ false
+PoweredUp Reset a = ⊥
 PoweredUp (Wide k) a = ⊥
 PoweredUp (On ch k) a = ⊥
 
--- the first of the calls is one
 abbrev pub Started : List (ℕ × Call) → List ℕ → Type 0
 Started [] m = ⊥
 Started (x ∷ cs) m = PoweredUp (x .1) (answer (x .1) (take (x .0) m))
 
--- the memory agrees with the history of the calls and answers; each answer is what the history before it tells; every accepted entry has one fate
-pub record Theorem (calls : List (ℕ × Call)) (m : List ℕ) : Type 0 where
-  pub agrees : Agrees (history (events calls m) start) (run calls m)
-  pub told : AllTold (events calls m) start
-  pub conserved : AllConserved (history (events calls m) start)
+-- ---- what a channel's block stores of a FIFO
+
+abbrev pub placesOf : Side → Places
+placesOf Receiving = receivePlaces
+placesOf Transmitting = transmitPlaces
+
+abbrev pub storedOverwritten : Side → List ℕ → ℕ
+storedOverwritten Receiving b = word b receiveOverwritten
+storedOverwritten Transmitting b = 0
+
+-- ---- the fates of a FIFO's entries
+
+-- l is its ledger, s what the answers gave out of it, h what the history keeps of its channel, b the channel's block
+pub record Accounted (side : Side) (l : Ledger) (s : List (List ℕ)) (h : Kept) (b : List ℕ) : Type 0 where
+  -- "Each has exactly one fate: taken out (read or sent), cleared, overwritten or still held.": first those with a fate of the ledger, each
+  -- with one, then those held
+  pub one-fate : length (departed l) ≡ length (l .fates)
+  pub then-held : l .accepted ≡ departed l ++ remaining l
+  -- "So accepted = taken out + cleared + overwritten + held."
+  pub conserved :
+      length (l .accepted) ≡ number TakenOut (l .fates) + number Cleared (l .fates) + number Overwritten (l .fates) + length (remaining l)
+  -- "Each entry taken out is as it was accepted (on sending, its parity bit aside), in number order."
+  pub out : map (aside side) s ≡ map (aside side) (withFate TakenOut (l .accepted) (l .fates))
+  -- "The held ones are the newest, and exactly these are in the FIFO, oldest first."
+  pub held : fifo (placesOf side) b .held ≡ entries (remaining l)
+  -- "The description's history gives it from the calls and their answers alone"
+  pub history : Accounts l (fifoOf side h) (overwrittenOf side h)
+  -- "Accepted and fate counts equal the history's, modulo 4,294,967,296, also across module resets."
+  pub accepted : word b (placesOf side .accepted) ≡ rolled (length (l .accepted))
+  pub taken : word b (placesOf side .taken) ≡ rolled (number TakenOut (l .fates))
+  pub cleared : word b (placesOf side .cleared) ≡ rolled (number Cleared (l .fates))
+  pub overwritten : storedOverwritten side b ≡ rolled (number Overwritten (l .fates))
+
+-- ---- the theorem
+
+module _ (calls : List (ℕ × Call)) (m : List ℕ) where
+  -- "the calls in order, each with its arguments and answer", and the history that they give
+  abbrev pub told : List (Call × Answer)
+  told = events calls m
+
+  abbrev pub after : History
+  after = history told start
+
+  -- for every list of calls and every memory
+  pub record Theorem : Type 0 where
+    -- "each answer is the one the description gives", on the words lent "as the one before left" them
+    pub answers : (before : List (ℕ × Call)) (k : ℕ) (c : Call) (rest : List (ℕ × Call)) → calls ≡ before ++ (k, c) ∷ rest
+        → told ≡ events before m ++ (c, answer c (take k (run before m))) ∷ events rest (run (before ++ (k, c) ∷ []) m)
+    -- "FIFO read: the oldest is taken out, and is the answer's entry." "Immediate or triggered step that gives a word: the oldest is taken out,
+    -- and is that word, D31 aside."
+    pub tells : AllTold told start
+    -- "The oldest is never asked for with none held."
+    pub oldest : (side : Side) (ch : ℕ) → NeverEmpty side ch told start
+    -- the stored stamp, settings, held entries and counts are the history's
+    pub agrees : Agrees after (run calls m)
+    -- "Each has exactly one fate": the entries of each FIFO of each channel
+    pub fifos : (side : Side) (ch : ℕ) → 1 ≤ ch → ch ≤ after .count
+        → Accounted side (ledger side ch told) (givenOut side ch told) (after .kept ch) (block (run calls m) ch)

@@ -17,7 +17,7 @@ use Rattle.block.specs.Layout.{word, parity, stamps, receiveMode, settings, rec
 use Rattle.block.specs.Ranges.{leasts, greatests, Usable}
 use Rattle.block.specs.Clearing.{counted}
 use Rattle.block.specs.Status.{parityErrorSignal}
-use Rattle.block.specs.Fifos.{Places, receivePlaces, transmitPlaces, entryAppended, entryOverwriting, Fifo, fifo, accepts, gives, overwrites}
+use Rattle.block.specs.Fifos.{Places, receivePlaces, transmitPlaces, entryAppended, entryOverwriting, Fifo, fifo, accepts, gives, overwrites, changed, overwrittenAfter}
 use Rattle.block.proofs.Words.{words}
 use Rattle.block.proofs.Sound.{in-range, usable-level, usable-beyond}
 use Rattle.block.proofs.Keeps.{usable-store, usable-behind}
@@ -26,7 +26,7 @@ use Rattle.receive.specs.Arrival.{arrival}
 use Rattle.receive.specs.Entries.{stampOf, wordEntry, indexEntry, entryOf, mailboxAt, mailOf, mailed}
 use Rattle.receive.specs.Arrived.{overwriting, stored, arrived, errorSignal, signalled, arrivalSignal}
 use Rattle.receive.specs.Reading.{shown, readAnswer, readAfter, mailboxAfter}
-use Rattle.receive.specs.Fates.{receives, overwrittenBy}
+use Rattle.receive.specs.Fates.{arrivalChange}
 use Rattle.receive.specs.declared.Arrival.{Arrival}
 use Rattle.receive.specs.declared.Arrival.the-variants.{Ignored, Filtered, Appended, Dropped, Overwriting}
 use Rattle.receive.proofs.Bounds.{bounds, mark-le, room, full, mail-keeps, mail-before}
@@ -198,14 +198,14 @@ module _ {b : List ℕ} (u : Usable b) (stamp w : ℕ) where
       go Overwriting = then (mail-leaves stamp w b) (overwrite-leaves mail (entryOf stamp w b) (entry-width stamp w b))
 
   -- the receive FIFO
-  pub arrive-fifo : fifo receivePlaces (arrived stamp w b) ≡ receives counted (arrival w b) (fifo receivePlaces b) (entryOf stamp w b)
+  pub arrive-fifo : fifo receivePlaces (arrived stamp w b) ≡ changed counted (arrivalChange (arrival w b) (entryOf stamp w b)) (fifo receivePlaces b)
   unfolding stored
   arrive-fifo = go (arrival w b) refl
     where
       mail-left : fifo receivePlaces mail ≡ fifo receivePlaces b
       mail-left = mail-fifo receivePlaces stamp w b (omega arith) (λ i h. omega arith)
 
-      go : (a : Arrival) → arrival w b ≡ a → fifo receivePlaces (stored a stamp w b) ≡ receives counted a (fifo receivePlaces b) (entryOf stamp w b)
+      go : (a : Arrival) → arrival w b ≡ a → fifo receivePlaces (stored a stamp w b) ≡ changed counted (arrivalChange a (entryOf stamp w b)) (fifo receivePlaces b)
       go Ignored d = refl
       go Filtered d = refl
       go Appended d =
@@ -219,14 +219,14 @@ module _ {b : List ℕ} (u : Usable b) (stamp w : ℕ) where
           ∙ ap (λ (f : Fifo). overwrites counted f (entryOf stamp w b)) mail-left
 
   -- the count of the overwritten grows on overwriting alone
-  pub arrive-overwritten : word (arrived stamp w b) receiveOverwritten ≡ overwrittenBy counted (arrival w b) (word b receiveOverwritten)
+  pub arrive-overwritten : word (arrived stamp w b) receiveOverwritten ≡ overwrittenAfter counted (arrivalChange (arrival w b) (entryOf stamp w b)) (word b receiveOverwritten)
   unfolding stored
   arrive-overwritten = go (arrival w b)
     where
       mail-left : word mail receiveOverwritten ≡ word b receiveOverwritten
       mail-left = mail-before stamp w b receiveOverwritten (omega arith)
 
-      go : (a : Arrival) → word (stored a stamp w b) receiveOverwritten ≡ overwrittenBy counted a (word b receiveOverwritten)
+      go : (a : Arrival) → word (stored a stamp w b) receiveOverwritten ≡ overwrittenAfter counted (arrivalChange a (entryOf stamp w b)) (word b receiveOverwritten)
       go Ignored = refl
       go Filtered = refl
       go Appended = append-overwritten mail (entryOf stamp w b) ∙ mail-left
