@@ -4,9 +4,6 @@
 pub const NO_CALL: u32 = 42;
 
 /// One item of a call list: four 32-bit words.
-/// The op of module reset.
-pub const MODULE_RESET: u32 = 2;
-
 #[derive(Clone, Copy, PartialEq, Eq, Debug)]
 pub struct Item {
     pub op: u32,

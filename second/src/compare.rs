@@ -93,9 +93,6 @@ pub fn run(list: &List, first: &mut dyn Engine, second: &mut dyn Engine, tally: 
             }
             Event::Call(item) => {
                 let Item { op, channel, a, b } = item;
-                if !first.has(op) || !second.has(op) {
-                    continue;
-                }
                 let answer = first.perform(&mut own[..lent], op, channel, a, b);
                 let other = second.perform(&mut mem[..lent], op, channel, a, b);
                 tally.enter(item, &other);

@@ -8,11 +8,6 @@ pub trait Engine {
     /// Performs one item on the lent words; gives the answer's number and values.
     fn perform(&mut self, mem: &mut [u32], op: u32, channel: u32, a: u32, b: u32) -> Vec<u32>;
 
-    /// Whether the engine has the call of an op; a comparison leaves out what one of its engines lacks.
-    fn has(&self, _op: u32) -> bool {
-        true
-    }
-
     /// The memory is new, or others have changed it: an engine with a state of its own reads it again.
     fn resume(&mut self, _mem: &[u32]) {}
 

@@ -1,13 +1,12 @@
 //! `second compare --calls N --seed S`: the model against the words on random call lists.
 //! `second compare-proved --calls N --seed S` (feature `proved`): the words against the proved library, answers and the whole memory.
-//! `second list --calls N --seed S`: the same random calls as 16-byte items, for a program that reads them; module reset left out.
+//! `second list --calls N --seed S`: the same random calls as 16-byte items, for a program that reads them.
 //! `second replay`: performs a list of 16-byte items from standard input, one answer line for each.
 
 use std::io::{self, Read, Write};
 use std::process::ExitCode;
 use std::time::Instant;
 
-use second::calls::MODULE_RESET;
 use second::compare::compare;
 use second::engine::{AsModel, Engine, OnWords};
 use second::layout::need;
@@ -81,12 +80,10 @@ fn write_list(calls: u64, seed: u64) -> io::Result<()> {
                 return out.flush();
             }
             if let Event::Call(item) = event {
-                if item.op != MODULE_RESET {
-                    for word in [item.op, item.channel, item.a, item.b] {
-                        out.write_all(&word.to_le_bytes())?;
-                    }
-                    left -= 1;
+                for word in [item.op, item.channel, item.a, item.b] {
+                    out.write_all(&word.to_le_bytes())?;
                 }
+                left -= 1;
             }
         }
     }

@@ -1,6 +1,6 @@
 //! The proved library through its C interface.
 
-use crate::calls::{Call, Item, MODULE_RESET};
+use crate::calls::{Call, Item};
 use crate::engine::Engine;
 
 extern "C" {
@@ -31,10 +31,5 @@ impl Engine for Proved {
         let mut answer = vec![number];
         answer.extend_from_slice(&values[..count]);
         answer
-    }
-
-    /// The library has no module reset.
-    fn has(&self, op: u32) -> bool {
-        op != MODULE_RESET
     }
 }
