@@ -15,38 +15,10 @@ use Rattle.block.specs.Layout.{word, receiver, transmitter, receiveMode,
 use Rattle.block.specs.Ranges.{leasts, greatests, inRange, Usable}
 use Rattle.block.specs.Clearing.{counted, receiveFifoCleared, transmitFifoCleared, stopped, forgotten}
 use Rattle.block.specs.Settings.{settingRefusal, receiveModeWritten, transmitModeWritten, transmitterWritten, written}
-use Rattle.block.specs.Status.{bit, seven, latchBit, latched, ruled, keptBit, kept, latchCleared}
-use Rattle.block.specs.Tests.{fifosCleared, tested, blockReset}
 use Rattle.block.specs.Factory.{factorySettings, settingsToFactory}
 use Rattle.word.proofs.Computed.{at}
 use Rattle.block.proofs.Words.{words}
 use Rattle.block.proofs.Sound.{in-range, word-in, usable-words, usable-set, usable-level, usable-size}
-
--- ---- masks
-
--- a mask made of seven bits, each 0 or its weight, is at most 127
-seven-le : (f : ℕ → ℕ) → ((p : ℕ) → f p ≤ p) → seven f ≤ 127
-seven-le f h = omega (arith, h 1, h 2, h 4, h 8, h 16, h 32, h 64)
-
-pub latched-le : (old level before holds : ℕ) → latched old level before holds ≤ 127
-unfolding latched latchBit
-latched-le old level before holds = seven-le (λ p. latchBit p old level before holds) (λ p. go p (eqb (bit p old) 1) (eqb (bit p holds) 0) (eqb (bit p level) 1) (eqb (bit p before) 1))
-  where
-    go : (p : ℕ) (s t u v : Bool) → cond s p (cond t 0 (cond u p (cond v 0 p))) ≤ p
-    go p true t u v = omega arith
-    go p false true u v = omega arith
-    go p false false true v = omega arith
-    go p false false false true = omega arith
-    go p false false false false = omega arith
-
-pub kept-le : (old mask : ℕ) → kept old mask ≤ 127
-unfolding kept keptBit
-kept-le old mask = seven-le (λ p. keptBit p old mask) (λ p. go p (eqb (bit p mask) 1) (eqb (bit p old) 1))
-  where
-    go : (p : ℕ) (s t : Bool) → cond s 0 (cond t p 0) ≤ p
-    go p true t = omega arith
-    go p false true = omega arith
-    go p false false = omega arith
 
 -- ---- each change of a block
 
@@ -70,30 +42,10 @@ module _ {b : List ℕ} (u : Usable b) where
   unfolding leasts greatests
   stop-keeps = usable-store (usable-store u state 0 (omega arith) refl) address 0 (omega arith) refl
 
-  pub rule-keeps : (before holds : ℕ) → Usable (ruled before holds b)
-  unfolding leasts greatests
-  rule-keeps before holds = usable-store u latch _ (omega arith) (in-range latch _ zero-le (latched-le _ _ before holds))
-
-  pub clear-keeps : (mask : ℕ) → Usable (latchCleared mask b)
-  unfolding leasts greatests
-  clear-keeps mask = usable-store u latch _ (omega arith) (in-range latch _ zero-le (kept-le _ mask))
-
 module _ {b : List ℕ} (u : Usable b) where
   pub forget-keeps : Usable (forgotten b)
   unfolding leasts greatests
   forget-keeps = usable-store (stop-keeps u) asyncMark 0 (omega arith) refl
-
-  pub fifos-cleared : Usable (fifosCleared b)
-  fifos-cleared = transmit-cleared (receive-cleared u)
-
-  -- the initiated test
-  pub test-keeps : (result : ℕ) → Usable (tested result b)
-  unfolding tested leasts greatests
-  test-keeps result = go (eqb result 0)
-    where
-      go : (t : Bool) → Usable (cond t (stopped (fifosCleared b)) (set (stopped (fifosCleared b)) latch (word b latch % 64 + 64)))
-      go true = stop-keeps fifos-cleared
-      go false = usable-store (stop-keeps fifos-cleared) latch _ (omega arith) (in-range latch (word b latch % 64 + 64) zero-le (omega arith))
 
 -- ---- settings
 
@@ -163,7 +115,7 @@ module _ {b : List ℕ} (u : Usable b) (s v : ℕ) (h : s < settings) (a : Setta
       go false false true x y z = transmitter-keeps z
       go false false false x y z = other-keeps
 
--- ---- a module reset
+-- ---- factory settings
 
 holds : (t : Bool) → T t → t ≡ true
 holds true h = refl
@@ -201,12 +153,3 @@ factory-keeps {b} u none =
         go : Dec (i < settings) → inRange i (word (settingsToFactory b) i) ≡ true
         go (yes k) = rw (factory-setting b i l k) (factory-in i k)
         go (no k) = rw (factory-other b i l (omega arith)) (word-in u i h)
-
-pub reset-keeps : {b : List ℕ} → Usable b → Usable (blockReset b)
-unfolding blockReset leasts greatests
-reset-keeps {b} u =
-    let f = factory-keeps (forget-keeps (fifos-cleared u)) (none-held b (u .whole)) in
-    usable-store (usable-store (usable-store f latch 0 (omega arith) refl) enable 0 (omega arith) refl) levelMask 0 (omega arith) refl
-  where
-    none-held : (b : List ℕ) → Whole b → word (forgotten (fifosCleared b)) receiveLevel ≡ 0
-    none-held b w = search words

@@ -5,6 +5,4 @@ pub mod Clearing
 pub mod Settings
 pub mod Matching
 pub mod Memories
-pub mod Status
-pub mod Tests
 pub mod Fifos

@@ -6,5 +6,3 @@ pub mod matching;
 pub mod memories;
 pub mod ranges;
 pub mod settings;
-pub mod status;
-pub mod tests;

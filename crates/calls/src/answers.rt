@@ -1,5 +1,5 @@
 // An answer as a list of numbers: the answer's number, then its values.
-use channel::calls::Answer;
+use channel_calls::calls::Answer;
 use module::calls::Call;
 use receive::Arrival;
 ghost use mathlib.Core.Path.{_≡_};

@@ -1,13 +1,13 @@
 // A call from the four words of an item: the op, the channel and two arguments. A word that an op does not use is ignored.
-use channel::calls::ChannelCall;
-use channel::calls::MemoryCall;
-use channel::calls::ReadCall;
-use channel::calls::ReceiveCall;
-use channel::calls::Setting;
-use channel::calls::SettingCall;
-use channel::calls::StatusCall;
-use channel::calls::TestCall;
-use channel::calls::TransmitCall;
+use channel_calls::calls::ChannelCall;
+use channel_calls::calls::MemoryCall;
+use channel_calls::calls::ReadCall;
+use channel_calls::calls::ReceiveCall;
+use channel_calls::calls::Setting;
+use channel_calls::calls::SettingCall;
+use channel_calls::calls::StatusCall;
+use channel_calls::calls::TestCall;
+use channel_calls::calls::TransmitCall;
 use module::calls::Call;
 use wide::calls::WideCall;
 ghost use mathlib.Core.Path.{_≡_};

@@ -1,16 +1,16 @@
 // How many values a call answers beside the number.
-use channel::calls::ChannelCall;
-use channel::calls::MemoryCall;
-use channel::calls::ReadCall;
-use channel::calls::ReceiveCall;
-use channel::calls::SettingCall;
-use channel::calls::StatusCall;
-use channel::calls::TransmitCall;
+use channel_calls::calls::ChannelCall;
+use channel_calls::calls::MemoryCall;
+use channel_calls::calls::ReadCall;
+use channel_calls::calls::ReceiveCall;
+use channel_calls::calls::SettingCall;
+use channel_calls::calls::StatusCall;
+use channel_calls::calls::TransmitCall;
 use module::calls::Call;
 use wide::calls::WideCall;
 ghost use mathlib.Core.Path.{_≡_};
 ghost use Prim.Native.Nat.{_≤_};
-ghost use Rattle.channel.specs.Answers.{settingValues, memoryValues, statusValues, readValues, receiveValues, transmitValues, channelValues};
+ghost use Rattle.channel_calls.specs.Answers.{settingValues, memoryValues, statusValues, readValues, receiveValues, transmitValues, channelValues};
 ghost use Rattle.module.specs.Perform.{wideValues, values};
 
 fn setting_values(call: SettingCall) -> usize

@@ -1,3 +1,2 @@
-pub mod Accepted
 pub mod Signals
 pub mod Performed

@@ -3,11 +3,11 @@
 use Prim.Native.Nat.{ℕ, _+_}
 use mathlib.Core.Path.{_≡_, ap, ap₂, _∙_}
 use mathlib.Core.List.{List}
-use Rattle.block.specs.Status.{ruled}
+use Rattle.status.specs.Status.{ruled}
 use Rattle.channel.specs.Channel.{didAnswer, didLeave, didSignal, holding, shown, blockAnswer, blockAfter}
-use Rattle.channel.specs.declared.calls.ChannelCall.{ChannelCall}
-use Rattle.channel.specs.declared.calls.Given.{Given}
-use Rattle.channel.specs.declared.calls.Answer.{Answer}
+use Rattle.channel_calls.specs.declared.calls.ChannelCall.{ChannelCall}
+use Rattle.channel_calls.specs.declared.calls.Given.{Given}
+use Rattle.channel_calls.specs.declared.calls.Answer.{Answer}
 
 -- `d` is the block that the call left, `m` the block that the rule left
 pub performed : (g : Given) (k : ChannelCall) (b d m : List ℕ) (before holds signal : ℕ) (did result : Answer)

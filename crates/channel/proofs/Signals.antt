@@ -6,7 +6,7 @@ use mathlib.Core.List.{List}
 use native.Mathlib.Omega.{arith}
 use lib.Dec.{eqb}
 use Rattle.block.specs.Layout.{word, parity, receiveMode, transmitter, transmitMode}
-use Rattle.block.specs.Status.{parityErrorSignal, interruptSignal}
+use Rattle.status.specs.Status.{parityErrorSignal, interruptSignal}
 use Rattle.receive.specs.Arrival.{arrival}
 use Rattle.receive.specs.Arrived.{errorSignal, signalled, arrivalSignal}
 use Rattle.receive.specs.declared.Arrival.{Arrival}
@@ -16,12 +16,12 @@ use Rattle.schedule.proofs.Laws.{step-signal}
 use Rattle.transmit.specs.Step.{place, command, message, scheduledOutcome, scheduledSignal, stepSignal}
 use Rattle.channel.specs.Groups.{receiveSignal, transmitSignal}
 use Rattle.channel.specs.Channel.{didSignal}
-use Rattle.channel.specs.declared.calls.ReceiveCall.{ReceiveCall}
-use Rattle.channel.specs.declared.calls.ReceiveCall.the-variants.{Arrive, ReadFifo, ReadMailbox}
-use Rattle.channel.specs.declared.calls.TransmitCall.{TransmitCall}
-use Rattle.channel.specs.declared.calls.TransmitCall.the-variants.{WriteFifo, WriteAsync, Trigger, Pause, Stop, Step}
-use Rattle.channel.specs.declared.calls.ChannelCall.{ChannelCall}
-use Rattle.channel.specs.declared.calls.ChannelCall.the-variants.{Settings, Memories, Status, Tests, Reads, Receive, Transmit}
+use Rattle.channel_calls.specs.declared.calls.ReceiveCall.{ReceiveCall}
+use Rattle.channel_calls.specs.declared.calls.ReceiveCall.the-variants.{Arrive, ReadFifo, ReadMailbox}
+use Rattle.channel_calls.specs.declared.calls.TransmitCall.{TransmitCall}
+use Rattle.channel_calls.specs.declared.calls.TransmitCall.the-variants.{WriteFifo, WriteAsync, Trigger, Pause, Stop, Step}
+use Rattle.channel_calls.specs.declared.calls.ChannelCall.{ChannelCall}
+use Rattle.channel_calls.specs.declared.calls.ChannelCall.the-variants.{Settings, Memories, Status, Tests, Reads, Receive, Transmit}
 
 error-le : (w : ℕ) (b : List ℕ) → errorSignal w b ≤ interruptSignal
 error-le w b = omega (arith, mark-le (word b parity) w)

@@ -2,15 +2,15 @@
 use Prim.Native.Nat.{ℕ, _+_, _*_}
 use mathlib.Core.List.{List}
 use Rattle.block.specs.Layout.{word, latch}
-use Rattle.block.specs.Status.{conditions, ruled, pending, faultWeight}
+use Rattle.status.specs.Status.{conditions, ruled, pending, faultWeight}
 use Rattle.channel.specs.Groups.{settingAnswer, settingAfter, memoryAnswer, memoryAfter, statusAnswer, statusAfter, testAfter, countAnswer, receiveAnswer, receiveAfter, receiveSignal, transmitAnswer, transmitAfter, transmitSignal}
-use Rattle.channel.specs.declared.calls.StatusCall.{StatusCall}
-use Rattle.channel.specs.declared.calls.StatusCall.the-variants.{ReadStatus, ClearLatch, WriteEnable, ReadEnable, WriteLevelMask, ReadLevelMask, ReadPending}
-use Rattle.channel.specs.declared.calls.ChannelCall.{ChannelCall}
-use Rattle.channel.specs.declared.calls.ChannelCall.the-variants.{Settings, Memories, Status, Tests, Reads, Receive, Transmit}
-use Rattle.channel.specs.declared.calls.Given.{Given}
-use Rattle.channel.specs.declared.calls.Answer.{Answer}
-use Rattle.channel.specs.declared.calls.Answer.the-variants.{Done, Value}
+use Rattle.channel_calls.specs.declared.calls.StatusCall.{StatusCall}
+use Rattle.channel_calls.specs.declared.calls.StatusCall.the-variants.{ReadStatus, ClearLatch, WriteEnable, ReadEnable, WriteLevelMask, ReadLevelMask, ReadPending}
+use Rattle.channel_calls.specs.declared.calls.ChannelCall.{ChannelCall}
+use Rattle.channel_calls.specs.declared.calls.ChannelCall.the-variants.{Settings, Memories, Status, Tests, Reads, Receive, Transmit}
+use Rattle.channel_calls.specs.declared.calls.Given.{Given}
+use Rattle.channel_calls.specs.declared.calls.Answer.{Answer}
+use Rattle.channel_calls.specs.declared.calls.Answer.the-variants.{Done, Value}
 
 -- what an accepted call answers, and what it leaves, before the rule
 abbrev pub didAnswer : ChannelCall → List ℕ → Answer

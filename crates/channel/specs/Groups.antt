@@ -8,8 +8,8 @@ use Rattle.block.specs.Layout.{word, enable, levelMask, receiveLevel, transmitL
 use Rattle.block.specs.Settings.{written}
 use Rattle.block.specs.Matching.{matched, matchWritten}
 use Rattle.block.specs.Memories.{ramRead, ramWritten}
-use Rattle.block.specs.Status.{latchCleared}
-use Rattle.block.specs.Tests.{tested}
+use Rattle.status.specs.Status.{latchCleared}
+use Rattle.status.specs.Tests.{tested}
 use Rattle.block.specs.Clearing.{stopped}
 use Rattle.receive.specs.Arrival.{arrival}
 use Rattle.receive.specs.Arrived.{arrived, arrivalSignal}
@@ -17,23 +17,23 @@ use Rattle.receive.specs.Reading.{readAnswer, readAfter, mailboxAnswer, mailbox
 use Rattle.transmit.specs.Writes.{fifoWritten, asyncWritten}
 use Rattle.transmit.specs.States.{afterTrigger, afterPause}
 use Rattle.transmit.specs.Step.{stepOutput, stepSignal, stepAfter}
-use Rattle.channel.specs.Answers.{place}
-use Rattle.channel.specs.declared.calls.SettingCall.{SettingCall}
-use Rattle.channel.specs.declared.calls.SettingCall.the-variants.{WriteSetting, ReadSetting}
-use Rattle.channel.specs.declared.calls.MemoryCall.{MemoryCall}
-use Rattle.channel.specs.declared.calls.MemoryCall.the-variants.{WriteMatch, ReadMatch, WriteSchedule, ReadSchedule, WriteMessage, ReadMessage}
-use Rattle.channel.specs.declared.calls.StatusCall.{StatusCall}
-use Rattle.channel.specs.declared.calls.StatusCall.the-variants.{ReadStatus, ClearLatch, WriteEnable, ReadEnable, WriteLevelMask, ReadLevelMask, ReadPending}
-use Rattle.channel.specs.declared.calls.TestCall.{TestCall}
-use Rattle.channel.specs.declared.calls.TestCall.the-variants.{Sample, ResetTest, InitiateTest}
-use Rattle.channel.specs.declared.calls.ReadCall.{ReadCall}
-use Rattle.channel.specs.declared.calls.ReadCall.the-variants.{ReadCounts, ReadReceiveLevel, ReadTransmitLevel, ReadAsync}
-use Rattle.channel.specs.declared.calls.ReceiveCall.{ReceiveCall}
-use Rattle.channel.specs.declared.calls.ReceiveCall.the-variants.{Arrive, ReadFifo, ReadMailbox}
-use Rattle.channel.specs.declared.calls.TransmitCall.{TransmitCall}
-use Rattle.channel.specs.declared.calls.TransmitCall.the-variants.{WriteFifo, WriteAsync, Trigger, Pause, Stop, Step}
-use Rattle.channel.specs.declared.calls.Answer.{Answer}
-use Rattle.channel.specs.declared.calls.Answer.the-variants.{Done, Value, Waiting, Fates, Arrived, Entry, Stepped}
+use Rattle.channel_calls.specs.Answers.{place}
+use Rattle.channel_calls.specs.declared.calls.SettingCall.{SettingCall}
+use Rattle.channel_calls.specs.declared.calls.SettingCall.the-variants.{WriteSetting, ReadSetting}
+use Rattle.channel_calls.specs.declared.calls.MemoryCall.{MemoryCall}
+use Rattle.channel_calls.specs.declared.calls.MemoryCall.the-variants.{WriteMatch, ReadMatch, WriteSchedule, ReadSchedule, WriteMessage, ReadMessage}
+use Rattle.channel_calls.specs.declared.calls.StatusCall.{StatusCall}
+use Rattle.channel_calls.specs.declared.calls.StatusCall.the-variants.{ReadStatus, ClearLatch, WriteEnable, ReadEnable, WriteLevelMask, ReadLevelMask, ReadPending}
+use Rattle.channel_calls.specs.declared.calls.TestCall.{TestCall}
+use Rattle.channel_calls.specs.declared.calls.TestCall.the-variants.{Sample, ResetTest, InitiateTest}
+use Rattle.channel_calls.specs.declared.calls.ReadCall.{ReadCall}
+use Rattle.channel_calls.specs.declared.calls.ReadCall.the-variants.{ReadCounts, ReadReceiveLevel, ReadTransmitLevel, ReadAsync}
+use Rattle.channel_calls.specs.declared.calls.ReceiveCall.{ReceiveCall}
+use Rattle.channel_calls.specs.declared.calls.ReceiveCall.the-variants.{Arrive, ReadFifo, ReadMailbox}
+use Rattle.channel_calls.specs.declared.calls.TransmitCall.{TransmitCall}
+use Rattle.channel_calls.specs.declared.calls.TransmitCall.the-variants.{WriteFifo, WriteAsync, Trigger, Pause, Stop, Step}
+use Rattle.channel_calls.specs.declared.calls.Answer.{Answer}
+use Rattle.channel_calls.specs.declared.calls.Answer.the-variants.{Done, Value, Waiting, Fates, Arrived, Entry, Stepped}
 
 -- ---- settings: "Channel settings"
 

@@ -1,4 +1,2 @@
-pub mod Answers
-pub mod Refusals
 pub mod Groups
 pub mod Channel

@@ -1,22 +1,22 @@
 // A call on one channel: the dispatch, and the status rule in one place.
-use crate::calls::Answer;
-use crate::calls::ChannelCall;
-use crate::calls::Did;
-use crate::calls::Given;
+use crate::masks::on_status;
 use crate::memories::on_memory;
 use crate::reads::on_read;
 use crate::receiving::on_receive;
 use crate::settings::on_setting;
-use crate::status::on_status;
 use crate::tests::on_test;
 use crate::transmitting::on_transmit;
+use channel_calls::calls::Answer;
+use channel_calls::calls::ChannelCall;
+use channel_calls::calls::Did;
+use channel_calls::calls::Given;
 ghost use mathlib.Core.Path.{_≡_};
 ghost use Prim.Native.Nat.{_+_, _≤_, _<_};
 ghost use Rattle.block.specs.Layout.{Whole};
 ghost use Rattle.block.specs.Ranges.{Usable};
-ghost use Rattle.channel.specs.Refusals.{channelRefusal};
+ghost use Rattle.channel_calls.specs.Refusals.{channelRefusal};
 ghost use Rattle.channel.specs.Channel.{didAnswer, didLeave, didSignal, holding, shown, blockAnswer, blockAfter};
-ghost use Rattle.channel.specs.declared.calls.Did.{Did};
+ghost use Rattle.channel_calls.specs.declared.calls.Did.{Did};
 
 // An answer that signals nothing.
 fn quiet(answer: Answer) -> Did
@@ -49,7 +49,7 @@ fn holding(fault: u32, block: &[u32]) -> u32
     requires { ⌜ (Whole (now block)) × (fault ≤ 1) ⌝ }
     ensures { λ r. ⌜ (r ≡ holding fault (now (block .entry))) × (r < 128) ⌝ }
 {
-    block::status::conditions(block) + block::status::FAULT * fault
+    status::rule::conditions(block) + status::rule::FAULT * fault
 }
 
 // What a call answers, on the block that the rule left.
@@ -58,7 +58,7 @@ fn show(block: &[u32], call: ChannelCall, answer: Answer) -> Answer
     ensures { λ r. ⌜ r ≡ shown call (now (block .entry)) answer ⌝ }
 {
     match call {
-        ChannelCall::Status(k) => crate::status::show(block, k, answer),
+        ChannelCall::Status(k) => crate::masks::show(block, k, answer),
         ChannelCall::Settings(_) => answer,
         ChannelCall::Memories(_) => answer,
         ChannelCall::Tests(_) => answer,
@@ -77,6 +77,6 @@ pub fn on_block(block: &mut [u32], given: Given, call: ChannelCall) -> Answer
     let did = act(block, given.stamp, call);
     let answer = did.answer;
     let holds = holding(given.after, block) + did.signal;
-    block::status::rule(block, before, holds);
+    status::rule::rule(block, before, holds);
     show(block, call, answer)
 }

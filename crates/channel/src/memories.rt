@@ -1,9 +1,9 @@
 // Accepted calls on the match set, the schedule RAM and the message RAM.
-use crate::calls::Answer;
-use crate::calls::MemoryCall;
+use channel_calls::calls::Answer;
+use channel_calls::calls::MemoryCall;
 ghost use mathlib.Core.Path.{_≡_};
 ghost use Rattle.block.specs.Layout.{Whole};
-ghost use Rattle.channel.specs.Refusals.{memoryCallRefusal};
+ghost use Rattle.channel_calls.specs.Refusals.{memoryCallRefusal};
 ghost use Rattle.channel.specs.Groups.{memoryAnswer, memoryAfter};
 
 pub fn on_memory(block: &mut [u32], call: MemoryCall) -> Answer

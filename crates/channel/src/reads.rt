@@ -1,8 +1,8 @@
 // Reads of the counts, the levels and the async word.
-use crate::calls::Answer;
-use crate::calls::ReadCall;
 use block::layout::ASYNC_MARK;
 use block::layout::ASYNC_WORD;
+use channel_calls::calls::Answer;
+use channel_calls::calls::ReadCall;
 ghost use mathlib.Core.Path.{_≡_};
 ghost use Rattle.block.specs.Layout.{Whole};
 ghost use Rattle.channel.specs.Groups.{countAnswer};

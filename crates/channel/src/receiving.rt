@@ -1,11 +1,11 @@
 // Accepted arrivals, and reads of what was received.
-use crate::calls::Answer;
-use crate::calls::Did;
-use crate::calls::ReceiveCall;
+use channel_calls::calls::Answer;
+use channel_calls::calls::Did;
+use channel_calls::calls::ReceiveCall;
 ghost use mathlib.Core.Path.{_≡_};
 ghost use Prim.Native.Nat.{_≤_};
 ghost use Rattle.block.specs.Ranges.{Usable};
-ghost use Rattle.channel.specs.Refusals.{receiveCallRefusal};
+ghost use Rattle.channel_calls.specs.Refusals.{receiveCallRefusal};
 ghost use Rattle.channel.specs.Groups.{receiveAnswer, receiveAfter, receiveSignal};
 
 pub fn on_receive(block: &mut [u32], stamp: u32, call: ReceiveCall) -> Did

@@ -1,7 +1,7 @@
 // Accepted calls on the settings.
-use crate::calls::Answer;
-use crate::calls::SettingCall;
-use crate::refusals::place;
+use channel_calls::calls::Answer;
+use channel_calls::calls::SettingCall;
+use channel_calls::refusals::place;
 ghost use mathlib.Core.Path.{_≡_};
 ghost use Rattle.block.specs.Layout.{Whole};
 ghost use Rattle.channel.specs.Groups.{settingAnswer, settingAfter};

@@ -1,6 +1,6 @@
 // Accepted background samples and tests. A sample and a test reset change the module's counter, and no word of the block.
-use crate::calls::Answer;
-use crate::calls::TestCall;
+use channel_calls::calls::Answer;
+use channel_calls::calls::TestCall;
 ghost use mathlib.Core.Path.{_≡_};
 ghost use Rattle.block.specs.Layout.{Whole};
 ghost use Rattle.channel.specs.Groups.{testAfter};
@@ -12,6 +12,6 @@ pub fn on_test(block: &mut [u32], call: TestCall)
     match call {
         TestCall::Sample(_) => {}
         TestCall::ResetTest => {}
-        TestCall::InitiateTest(result) => block::tests::initiated_test(block, result),
+        TestCall::InitiateTest(result) => status::tests::initiated_test(block, result),
     }
 }

@@ -1,12 +1,12 @@
 // Accepted calls on the transmitter.
-use crate::calls::Answer;
-use crate::calls::Did;
-use crate::calls::TransmitCall;
+use channel_calls::calls::Answer;
+use channel_calls::calls::Did;
+use channel_calls::calls::TransmitCall;
 ghost use mathlib.Core.Path.{_≡_};
 ghost use Rattle.block.specs.Ranges.{Usable};
-ghost use Rattle.channel.specs.Refusals.{transmitCallRefusal};
+ghost use Rattle.channel_calls.specs.Refusals.{transmitCallRefusal};
 ghost use Rattle.channel.specs.Groups.{transmitAnswer, transmitAfter, transmitSignal};
-ghost use Rattle.channel.specs.declared.calls.Answer.the-variants.{Done};
+ghost use Rattle.channel_calls.specs.declared.calls.Answer.the-variants.{Done};
 
 // A call that answers nothing and signals nothing.
 fn done() -> Did

@@ -20,18 +20,18 @@ use Rattle.receive.proofs.Bounds.{bounds, full}
 use Rattle.receive.proofs.Laws.{read-answer}
 use Rattle.transmit.specs.Step.{oldestWord, stepOutput}
 use Rattle.transmit.proofs.Laws.{Sends, step-sends}
-use Rattle.channel.specs.Refusals.{receiveCallRefusal, channelRefusal}
+use Rattle.channel_calls.specs.Refusals.{receiveCallRefusal, channelRefusal}
 use Rattle.channel.specs.Groups.{entryAnswer, receiveAnswer, transmitAnswer}
 use Rattle.channel.specs.Channel.{blockAnswer}
-use Rattle.channel.proofs.Accepted.{not-below}
-use Rattle.channel.specs.declared.calls.ReceiveCall.{ReceiveCall}
-use Rattle.channel.specs.declared.calls.ReceiveCall.the-variants.{Arrive, ReadFifo, ReadMailbox}
-use Rattle.channel.specs.declared.calls.TransmitCall.{TransmitCall}
-use Rattle.channel.specs.declared.calls.TransmitCall.the-variants.{WriteFifo, WriteAsync, Trigger, Pause, Stop, Step}
-use Rattle.channel.specs.declared.calls.ChannelCall.{ChannelCall}
-use Rattle.channel.specs.declared.calls.ChannelCall.the-variants.{Settings, Memories, Status, Tests, Reads, Receive, Transmit}
-use Rattle.channel.specs.declared.calls.Given.{Given}
-use Rattle.channel.specs.declared.calls.Answer.the-variants.{Stepped}
+use Rattle.channel_calls.proofs.Accepted.{not-below}
+use Rattle.channel_calls.specs.declared.calls.ReceiveCall.{ReceiveCall}
+use Rattle.channel_calls.specs.declared.calls.ReceiveCall.the-variants.{Arrive, ReadFifo, ReadMailbox}
+use Rattle.channel_calls.specs.declared.calls.TransmitCall.{TransmitCall}
+use Rattle.channel_calls.specs.declared.calls.TransmitCall.the-variants.{WriteFifo, WriteAsync, Trigger, Pause, Stop, Step}
+use Rattle.channel_calls.specs.declared.calls.ChannelCall.{ChannelCall}
+use Rattle.channel_calls.specs.declared.calls.ChannelCall.the-variants.{Settings, Memories, Status, Tests, Reads, Receive, Transmit}
+use Rattle.channel_calls.specs.declared.calls.Given.{Given}
+use Rattle.channel_calls.specs.declared.calls.Answer.the-variants.{Stepped}
 use Rattle.channel_laws.specs.Kept.{keptOf}
 use Rattle.channel_laws.specs.Told.{Sent, receiveTold, transmitTold, Told}
 

@@ -11,11 +11,12 @@ use Rattle.block.specs.Layout.{word, settings, receiveLevel, receiveOverwritten
 use Rattle.block.specs.Ranges.{leasts, greatests, Usable}
 use Rattle.block.specs.Clearing.{counted, stopped}
 use Rattle.block.specs.Matching.{matchAt}
-use Rattle.block.specs.Status.{ruled, faultWeight}
-use Rattle.block.specs.Tests.{fifosCleared, tested}
+use Rattle.status.specs.Status.{ruled, faultWeight}
+use Rattle.status.specs.Tests.{fifosCleared, tested}
 use Rattle.block.specs.Fifos.{receivePlaces, transmitPlaces, Fifo, fifo, gives, Change, Stays, Adds, Takes, Clears, changed, overwrittenAfter}
 use Rattle.block.proofs.Sound.{in-range}
-use Rattle.block.proofs.Keeps.{stop-keeps, rule-keeps, clear-keeps, test-keeps, settable, write-keeps}
+use Rattle.block.proofs.Keeps.{stop-keeps, settable, write-keeps}
+use Rattle.status.proofs.Keeps.{rule-keeps, clear-keeps, test-keeps}
 use Rattle.receive.specs.Arrival.{arrival}
 use Rattle.receive.specs.Entries.{entryOf, mailboxAt}
 use Rattle.receive.specs.Fates.{arrivalChange}
@@ -23,29 +24,29 @@ use Rattle.receive.proofs.Laws.{Leaves as ReceiveLeaves, entry-by-settings, arr
 use Rattle.transmit.proofs.Laws.{Leaves as TransmitLeaves, write-keeps as fifo-write-keeps, write-accepts, async-keeps, async-fifo, trigger-keeps, trigger-fifo, pause-keeps, pause-fifo, step-keeps, step-fifo}
 use Rattle.schedule.specs.Output.{isFifoWord}
 use Rattle.transmit.specs.Step.{stepOutput}
-use Rattle.channel.specs.Answers.{place}
-use Rattle.channel.specs.Refusals.{settingCallRefusal, statusCallRefusal, receiveCallRefusal, transmitCallRefusal, channelRefusal}
+use Rattle.channel_calls.specs.Answers.{place}
+use Rattle.channel_calls.specs.Refusals.{settingCallRefusal, statusCallRefusal, receiveCallRefusal, transmitCallRefusal, channelRefusal}
 use Rattle.channel.specs.Groups.{settingAfter, memoryAfter, statusAfter, testAfter, receiveAnswer, receiveAfter, transmitAnswer, transmitAfter}
 use Rattle.channel.specs.Channel.{blockAfter, blockAnswer}
-use Rattle.channel.proofs.Accepted.{not-above, not-below}
-use Rattle.channel.specs.declared.calls.Setting.{Setting}
-use Rattle.channel.specs.declared.calls.Setting.the-variants.{Receiver, Transmitter, Parity, Match, Stamps, ReceiveMode, FifoKind, TransmitMode, ReceiveSize, AlmostFull, AlmostEmpty, Rate}
-use Rattle.channel.specs.declared.calls.SettingCall.{SettingCall}
-use Rattle.channel.specs.declared.calls.SettingCall.the-variants.{WriteSetting, ReadSetting}
-use Rattle.channel.specs.declared.calls.MemoryCall.{MemoryCall}
-use Rattle.channel.specs.declared.calls.MemoryCall.the-variants.{WriteMatch, ReadMatch, WriteSchedule, ReadSchedule, WriteMessage, ReadMessage}
-use Rattle.channel.specs.declared.calls.StatusCall.{StatusCall}
-use Rattle.channel.specs.declared.calls.StatusCall.the-variants.{ReadStatus, ClearLatch, WriteEnable, ReadEnable, WriteLevelMask, ReadLevelMask, ReadPending}
-use Rattle.channel.specs.declared.calls.TestCall.{TestCall}
-use Rattle.channel.specs.declared.calls.TestCall.the-variants.{Sample, ResetTest, InitiateTest}
-use Rattle.channel.specs.declared.calls.ReceiveCall.{ReceiveCall}
-use Rattle.channel.specs.declared.calls.ReceiveCall.the-variants.{Arrive, ReadFifo, ReadMailbox}
-use Rattle.channel.specs.declared.calls.TransmitCall.{TransmitCall}
-use Rattle.channel.specs.declared.calls.TransmitCall.the-variants.{WriteFifo, WriteAsync, Trigger, Pause, Stop, Step}
-use Rattle.channel.specs.declared.calls.ChannelCall.{ChannelCall}
-use Rattle.channel.specs.declared.calls.ChannelCall.the-variants.{Settings, Memories, Status, Tests, Reads, Receive, Transmit}
-use Rattle.channel.specs.declared.calls.Given.{Given}
-use Rattle.channel.specs.declared.calls.Answer.{Answer}
+use Rattle.channel_calls.proofs.Accepted.{not-above, not-below}
+use Rattle.channel_calls.specs.declared.calls.Setting.{Setting}
+use Rattle.channel_calls.specs.declared.calls.Setting.the-variants.{Receiver, Transmitter, Parity, Match, Stamps, ReceiveMode, FifoKind, TransmitMode, ReceiveSize, AlmostFull, AlmostEmpty, Rate}
+use Rattle.channel_calls.specs.declared.calls.SettingCall.{SettingCall}
+use Rattle.channel_calls.specs.declared.calls.SettingCall.the-variants.{WriteSetting, ReadSetting}
+use Rattle.channel_calls.specs.declared.calls.MemoryCall.{MemoryCall}
+use Rattle.channel_calls.specs.declared.calls.MemoryCall.the-variants.{WriteMatch, ReadMatch, WriteSchedule, ReadSchedule, WriteMessage, ReadMessage}
+use Rattle.channel_calls.specs.declared.calls.StatusCall.{StatusCall}
+use Rattle.channel_calls.specs.declared.calls.StatusCall.the-variants.{ReadStatus, ClearLatch, WriteEnable, ReadEnable, WriteLevelMask, ReadLevelMask, ReadPending}
+use Rattle.channel_calls.specs.declared.calls.TestCall.{TestCall}
+use Rattle.channel_calls.specs.declared.calls.TestCall.the-variants.{Sample, ResetTest, InitiateTest}
+use Rattle.channel_calls.specs.declared.calls.ReceiveCall.{ReceiveCall}
+use Rattle.channel_calls.specs.declared.calls.ReceiveCall.the-variants.{Arrive, ReadFifo, ReadMailbox}
+use Rattle.channel_calls.specs.declared.calls.TransmitCall.{TransmitCall}
+use Rattle.channel_calls.specs.declared.calls.TransmitCall.the-variants.{WriteFifo, WriteAsync, Trigger, Pause, Stop, Step}
+use Rattle.channel_calls.specs.declared.calls.ChannelCall.{ChannelCall}
+use Rattle.channel_calls.specs.declared.calls.ChannelCall.the-variants.{Settings, Memories, Status, Tests, Reads, Receive, Transmit}
+use Rattle.channel_calls.specs.declared.calls.Given.{Given}
+use Rattle.channel_calls.specs.declared.calls.Answer.{Answer}
 use Rattle.channel_laws.specs.Kept.{Kept, keptOf, keptBy, keptAfter}
 use Rattle.channel_laws.proofs.Holds.{Holds, here, parts, kept-setting, store-kept, stored, same-settings}
 use Rattle.channel_laws.proofs.Changes.{stop-kept, both-clear-kept, write-kept}

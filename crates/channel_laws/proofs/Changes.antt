@@ -12,7 +12,7 @@ use lib.Seq.{sets, getD-set-other, take-set-le, take-set-lt, set-getD}
 use Rattle.block.specs.Layout.{word, settings, receiveMode, transmitMode, transmitter, receiveLevel, receiveCleared, receiveOverwritten, transmitLevel, transmitCleared, state, address, asyncMark, Whole}
 use Rattle.block.specs.Clearing.{counted, receiveFifoCleared, transmitFifoCleared, stopped, forgotten}
 use Rattle.block.specs.Settings.{receiveModeWritten, transmitModeWritten, transmitterWritten, written}
-use Rattle.block.specs.Tests.{fifosCleared}
+use Rattle.status.specs.Tests.{fifosCleared}
 use Rattle.block.specs.Fifos.{receivePlaces, transmitPlaces, fifo, clears, Change, Stays, Clears}
 use Rattle.block.proofs.Words.{words}
 use Rattle.block.proofs.Fifos.{receive-proper, transmit-proper, store-apart, clear-law}

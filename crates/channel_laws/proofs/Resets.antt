@@ -13,11 +13,12 @@ use Rattle.block.specs.Layout.{word, settings, receiveLevel, receiveSize, recei
 use Rattle.block.specs.Ranges.{leasts, greatests, inRange, Usable}
 use Rattle.block.specs.Clearing.{counted, forgotten}
 use Rattle.block.specs.Factory.{factorySettings, factoryOf, settingsToFactory}
-use Rattle.block.specs.Tests.{fifosCleared, blockReset}
+use Rattle.status.specs.Tests.{fifosCleared, blockReset}
 use Rattle.block.specs.Fifos.{Places, receivePlaces, transmitPlaces, fifo, noEntries}
 use Rattle.block.proofs.Words.{words}
 use Rattle.block.proofs.Sound.{usable-words}
-use Rattle.block.proofs.Keeps.{factory-parts, reset-keeps}
+use Rattle.block.proofs.Keeps.{factory-parts}
+use Rattle.status.proofs.Keeps.{reset-keeps}
 use Rattle.channel_laws.specs.Kept.{Kept, keptOf, keptReset, keptFirst}
 use Rattle.channel_laws.proofs.Holds.{Holds, withSettings, parts, store-kept}
 use Rattle.channel_laws.proofs.Changes.{forget-kept, both-clear-kept, settings-kept}

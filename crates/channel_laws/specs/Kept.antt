@@ -13,15 +13,15 @@ use Rattle.receive.specs.Entries.{entryOf}
 use Rattle.receive.specs.Fates.{arrivalChange}
 use Rattle.receive.specs.declared.Arrival.{Arrival}
 use Rattle.receive.specs.declared.Arrival.the-variants.{Ignored}
-use Rattle.channel.specs.Answers.{place}
-use Rattle.channel.specs.declared.calls.SettingCall.the-variants.{WriteSetting, ReadSetting}
-use Rattle.channel.specs.declared.calls.TestCall.the-variants.{Sample, ResetTest, InitiateTest}
-use Rattle.channel.specs.declared.calls.ReceiveCall.the-variants.{Arrive, ReadFifo, ReadMailbox}
-use Rattle.channel.specs.declared.calls.TransmitCall.the-variants.{WriteFifo, WriteAsync, Trigger, Pause, Stop, Step}
-use Rattle.channel.specs.declared.calls.ChannelCall.{ChannelCall}
-use Rattle.channel.specs.declared.calls.ChannelCall.the-variants.{Settings, Memories, Status, Tests, Reads, Receive, Transmit}
-use Rattle.channel.specs.declared.calls.Answer.{Answer}
-use Rattle.channel.specs.declared.calls.Answer.the-variants.{Done, Refused, Value, Waiting, Fates, Arrived, Entry, Stepped}
+use Rattle.channel_calls.specs.Answers.{place}
+use Rattle.channel_calls.specs.declared.calls.SettingCall.the-variants.{WriteSetting, ReadSetting}
+use Rattle.channel_calls.specs.declared.calls.TestCall.the-variants.{Sample, ResetTest, InitiateTest}
+use Rattle.channel_calls.specs.declared.calls.ReceiveCall.the-variants.{Arrive, ReadFifo, ReadMailbox}
+use Rattle.channel_calls.specs.declared.calls.TransmitCall.the-variants.{WriteFifo, WriteAsync, Trigger, Pause, Stop, Step}
+use Rattle.channel_calls.specs.declared.calls.ChannelCall.{ChannelCall}
+use Rattle.channel_calls.specs.declared.calls.ChannelCall.the-variants.{Settings, Memories, Status, Tests, Reads, Receive, Transmit}
+use Rattle.channel_calls.specs.declared.calls.Answer.{Answer}
+use Rattle.channel_calls.specs.declared.calls.Answer.the-variants.{Done, Refused, Value, Waiting, Fates, Arrived, Entry, Stepped}
 
 -- ---- what is kept
 

@@ -8,14 +8,14 @@ use Rattle.schedule.specs.declared.Output.the-variants.{FifoWord}
 use Rattle.receive.specs.Reading.{shown}
 use Rattle.receive.specs.declared.Arrival.the-variants.{Overwriting}
 use Rattle.channel.specs.Groups.{entryAnswer}
-use Rattle.channel.specs.declared.calls.ReceiveCall.{ReceiveCall}
-use Rattle.channel.specs.declared.calls.ReceiveCall.the-variants.{Arrive, ReadFifo, ReadMailbox}
-use Rattle.channel.specs.declared.calls.TransmitCall.{TransmitCall}
-use Rattle.channel.specs.declared.calls.TransmitCall.the-variants.{WriteFifo, WriteAsync, Trigger, Pause, Stop, Step}
-use Rattle.channel.specs.declared.calls.ChannelCall.{ChannelCall}
-use Rattle.channel.specs.declared.calls.ChannelCall.the-variants.{Settings, Memories, Status, Tests, Reads, Receive, Transmit}
-use Rattle.channel.specs.declared.calls.Answer.{Answer}
-use Rattle.channel.specs.declared.calls.Answer.the-variants.{Arrived, Stepped}
+use Rattle.channel_calls.specs.declared.calls.ReceiveCall.{ReceiveCall}
+use Rattle.channel_calls.specs.declared.calls.ReceiveCall.the-variants.{Arrive, ReadFifo, ReadMailbox}
+use Rattle.channel_calls.specs.declared.calls.TransmitCall.{TransmitCall}
+use Rattle.channel_calls.specs.declared.calls.TransmitCall.the-variants.{WriteFifo, WriteAsync, Trigger, Pause, Stop, Step}
+use Rattle.channel_calls.specs.declared.calls.ChannelCall.{ChannelCall}
+use Rattle.channel_calls.specs.declared.calls.ChannelCall.the-variants.{Settings, Memories, Status, Tests, Reads, Receive, Transmit}
+use Rattle.channel_calls.specs.declared.calls.Answer.{Answer}
+use Rattle.channel_calls.specs.declared.calls.Answer.the-variants.{Arrived, Stepped}
 use Rattle.channel_laws.specs.Kept.{Kept}
 
 -- "The oldest is never asked for with none held": there is one, and it is e

@@ -6,7 +6,7 @@ use mathlib.Core.List.{List, [], _∷_, _++_, map}
 use native.Mathlib.Omega.{arith}
 use lib.ListN.{getD}
 use Rattle.block.specs.Fifos.{Fifo, Change, Stays, Adds, Overwrites, Takes, Clears, Begins, changed, overwrittenAfter}
-use Rattle.channel.specs.declared.calls.Answer.{Answer}
+use Rattle.channel_calls.specs.declared.calls.Answer.{Answer}
 use Rattle.channel_laws.specs.Kept.{Kept, keptFirst}
 use Rattle.module.specs.declared.calls.Call.{Call}
 use Rattle.fates.specs.History.{History, start, historyStep, history}

@@ -12,9 +12,9 @@ use lib.Seq.{getD-set-same, getD-set-other}
 use Rattle.block.specs.Layout.{word}
 use Rattle.block.specs.Clearing.{counted}
 use Rattle.channel.specs.Channel.{blockAnswer, blockAfter}
-use Rattle.channel.specs.declared.calls.Answer.{Answer}
-use Rattle.channel.specs.declared.calls.Answer.the-variants.{Done, Refused}
-use Rattle.channel.specs.declared.calls.ChannelCall.{ChannelCall}
+use Rattle.channel_calls.specs.declared.calls.Answer.{Answer}
+use Rattle.channel_calls.specs.declared.calls.Answer.the-variants.{Done, Refused}
+use Rattle.channel_calls.specs.declared.calls.ChannelCall.{ChannelCall}
 use Rattle.channel_laws.specs.Kept.{Kept, keptOf, keptAfter, keptReset}
 use Rattle.channel_laws.proofs.Calls.{left}
 use Rattle.frame.specs.Layout.{count, stamp, resolution, threshold, moduleWords, need, block}

@@ -10,14 +10,14 @@ use lib.ListN.{length, take, drop, take-append-drop}
 use Rattle.block.specs.Layout.{word}
 use Rattle.block.specs.Fifos.{Fifo}
 use Rattle.channel.specs.Channel.{blockAnswer}
-use Rattle.channel.specs.declared.calls.ReceiveCall.{ReceiveCall}
-use Rattle.channel.specs.declared.calls.ReceiveCall.the-variants.{Arrive, ReadFifo, ReadMailbox}
-use Rattle.channel.specs.declared.calls.TransmitCall.{TransmitCall}
-use Rattle.channel.specs.declared.calls.TransmitCall.the-variants.{WriteFifo, WriteAsync, Trigger, Pause, Stop, Step}
-use Rattle.channel.specs.declared.calls.ChannelCall.{ChannelCall}
-use Rattle.channel.specs.declared.calls.ChannelCall.the-variants.{Settings, Memories, Status, Tests, Reads, Receive, Transmit}
-use Rattle.channel.specs.declared.calls.Answer.{Answer}
-use Rattle.channel.specs.declared.calls.Answer.the-variants.{Refused}
+use Rattle.channel_calls.specs.declared.calls.ReceiveCall.{ReceiveCall}
+use Rattle.channel_calls.specs.declared.calls.ReceiveCall.the-variants.{Arrive, ReadFifo, ReadMailbox}
+use Rattle.channel_calls.specs.declared.calls.TransmitCall.{TransmitCall}
+use Rattle.channel_calls.specs.declared.calls.TransmitCall.the-variants.{WriteFifo, WriteAsync, Trigger, Pause, Stop, Step}
+use Rattle.channel_calls.specs.declared.calls.ChannelCall.{ChannelCall}
+use Rattle.channel_calls.specs.declared.calls.ChannelCall.the-variants.{Settings, Memories, Status, Tests, Reads, Receive, Transmit}
+use Rattle.channel_calls.specs.declared.calls.Answer.{Answer}
+use Rattle.channel_calls.specs.declared.calls.Answer.the-variants.{Refused}
 use Rattle.channel_laws.specs.Kept.{Kept}
 use Rattle.channel_laws.specs.Told.{Oldest, receiveTold, transmitTold, Told}
 use Rattle.channel_laws.proofs.Answers.{told}

@@ -6,7 +6,7 @@ use mathlib.Core.List.{List, [], _∷_, _++_}
 use native.Mathlib.Omega.{arith}
 use lib.ListN.{length, take, length-take, length-drop, take-append-drop}
 use Rattle.block.specs.Layout.{word}
-use Rattle.channel.specs.declared.calls.Answer.{Answer}
+use Rattle.channel_calls.specs.declared.calls.Answer.{Answer}
 use Rattle.channel_laws.specs.Kept.{Kept, keptOf}
 use Rattle.frame.specs.Layout.{block}
 use Rattle.module.specs.Perform.{answer}

@@ -4,7 +4,7 @@ use mathlib.Core.Path.{_≡_}
 use mathlib.Core.List.{List, [], _∷_}
 use lib.ListN.{length}
 use Rattle.block.specs.Fifos.{Fifo, Change, Stays, Adds, Overwrites, Takes, Clears, Begins}
-use Rattle.channel.specs.declared.calls.Answer.{Answer}
+use Rattle.channel_calls.specs.declared.calls.Answer.{Answer}
 use Rattle.module.specs.declared.calls.Call.{Call}
 use Rattle.fates.specs.History.{History, historyStep}
 use Rattle.fates.specs.Ledger.{Fate, TakenOut, Cleared, Overwritten, Ledger, remaining, number, entries, Side, fifoOf, change}

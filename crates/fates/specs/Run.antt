@@ -2,7 +2,7 @@
 use Prim.Native.Nat.{ℕ}
 use mathlib.Core.List.{List, [], _∷_, _++_}
 use lib.ListN.{take, drop}
-use Rattle.channel.specs.declared.calls.Answer.{Answer}
+use Rattle.channel_calls.specs.declared.calls.Answer.{Answer}
 use Rattle.module.specs.Perform.{answer, after}
 use Rattle.module.specs.declared.calls.Call.{Call}
 

@@ -2,7 +2,7 @@
 use mathlib.Core.Path.{_≡_}
 use mathlib.Core.Bool.{false}
 use mathlib.Core.List.{List, [], _∷_}
-use Rattle.channel.specs.declared.calls.Answer.{Answer}
+use Rattle.channel_calls.specs.declared.calls.Answer.{Answer}
 use Rattle.channel_laws.specs.Told.{Told}
 use Rattle.module.specs.declared.calls.Call.{Call}
 use Rattle.module.specs.declared.calls.Call.the-variants.{PowerUp, Reset, Wide, On}

@@ -6,7 +6,7 @@ use mathlib.Core.List.{List, [], _∷_, _++_, map}
 use lib.ListN.{length, take}
 use Rattle.block.specs.Layout.{word, receiveOverwritten}
 use Rattle.block.specs.Fifos.{Places, receivePlaces, transmitPlaces, fifo}
-use Rattle.channel.specs.declared.calls.Answer.{Answer}
+use Rattle.channel_calls.specs.declared.calls.Answer.{Answer}
 use Rattle.channel_laws.specs.Kept.{Kept}
 use Rattle.frame.specs.Layout.{block}
 use Rattle.module.specs.Perform.{answer}

@@ -5,7 +5,7 @@ use mathlib.Core.List.{flatten}
 use Rattle.word.specs.Word.{ones, reversed}
 use Rattle.word.specs.Parity.{oddParity, asSent, errorMark}
 use Rattle.word.specs.Gap.{clamped}
-use Rattle.block.specs.Status.{latchBit, latched}
+use Rattle.status.specs.Status.{latchBit, latched}
 use Rattle.frame.specs.Counters.{sampled}
 use Rattle.ring.specs.Ring.{words, held}
 use Rattle.schedule.specs.Output.{values}

@@ -9,7 +9,7 @@ use Rattle.word.specs.Gap.{clamped}
 use Rattle.block.specs.Layout.{word, receiver, matching, fifoKind, receiveSize, receiveAccepted, receiveOverwritten, blockWords}
 use Rattle.block.specs.Factory.{factoryOf}
 use Rattle.block.specs.Fifos.{receivePlaces, fifo}
-use Rattle.block.specs.Status.{faultWeight, faulty, latched}
+use Rattle.status.specs.Status.{faultWeight, faulty, latched}
 use Rattle.frame.specs.Layout.{stamp}
 use Rattle.frame.specs.Counters.{sampled}
 use Rattle.wide.specs.OnModule.{wideStored}

@@ -11,13 +11,13 @@ use lib.Dec.{eqb}
 use lib.ListN.{length, take, drop, set, length-set}
 use Rattle.block.specs.Layout.{word, blockWords}
 use Rattle.block.specs.Ranges.{Usable}
-use Rattle.block.specs.Status.{faulty}
-use Rattle.channel.specs.Refusals.{channelRefusal}
+use Rattle.status.specs.Status.{faulty}
+use Rattle.channel_calls.specs.Refusals.{channelRefusal}
 use Rattle.channel.specs.Channel.{blockAnswer, blockAfter}
-use Rattle.channel.specs.declared.calls.Answer.{Answer}
-use Rattle.channel.specs.declared.calls.Answer.the-variants.{Refused}
-use Rattle.channel.specs.declared.calls.ChannelCall.{ChannelCall}
-use Rattle.channel.specs.declared.calls.Given.{Given}
+use Rattle.channel_calls.specs.declared.calls.Answer.{Answer}
+use Rattle.channel_calls.specs.declared.calls.Answer.the-variants.{Refused}
+use Rattle.channel_calls.specs.declared.calls.ChannelCall.{ChannelCall}
+use Rattle.channel_calls.specs.declared.calls.Given.{Given}
 use Rattle.frame.specs.Layout.{stamp, threshold, counters, count, most, moduleWords, base, block, withBlock}
 use Rattle.frame.specs.Refusals.{addressRefusal}
 use Rattle.frame.proofs.Blocks.{Within, part-is, put-is, block-set}

@@ -5,16 +5,16 @@ use mathlib.Core.Bool.{Bool, true, false, cond}
 use lib.Dec.{eqb}
 use lib.ListN.{length, set}
 use Rattle.block.specs.Layout.{word, blockWords}
-use Rattle.block.specs.Status.{faulty}
-use Rattle.channel.specs.Refusals.{channelRefusal}
+use Rattle.status.specs.Status.{faulty}
+use Rattle.channel_calls.specs.Refusals.{channelRefusal}
 use Rattle.channel.specs.Channel.{blockAnswer, blockAfter}
-use Rattle.channel.specs.declared.calls.Answer.{Answer}
-use Rattle.channel.specs.declared.calls.Answer.the-variants.{Refused}
-use Rattle.channel.specs.declared.calls.ChannelCall.{ChannelCall}
-use Rattle.channel.specs.declared.calls.ChannelCall.the-variants.{Settings, Memories, Status, Tests, Reads, Receive, Transmit}
-use Rattle.channel.specs.declared.calls.TestCall.{TestCall}
-use Rattle.channel.specs.declared.calls.TestCall.the-variants.{Sample, ResetTest, InitiateTest}
-use Rattle.channel.specs.declared.calls.Given.{Given}
+use Rattle.channel_calls.specs.declared.calls.Answer.{Answer}
+use Rattle.channel_calls.specs.declared.calls.Answer.the-variants.{Refused}
+use Rattle.channel_calls.specs.declared.calls.ChannelCall.{ChannelCall}
+use Rattle.channel_calls.specs.declared.calls.ChannelCall.the-variants.{Settings, Memories, Status, Tests, Reads, Receive, Transmit}
+use Rattle.channel_calls.specs.declared.calls.TestCall.{TestCall}
+use Rattle.channel_calls.specs.declared.calls.TestCall.the-variants.{Sample, ResetTest, InitiateTest}
+use Rattle.channel_calls.specs.declared.calls.Given.{Given}
 use Rattle.frame.specs.Layout.{stamp, threshold, counters, moduleWords, most, base, block, withBlock}
 use Rattle.frame.specs.Counters.{sampled}
 use Rattle.frame.specs.Refusals.{addressRefusal}

@@ -3,9 +3,9 @@ use Prim.Native.Nat.{ℕ}
 use mathlib.Core.List.{List}
 use mathlib.Core.Bool.{Bool, true, false, cond}
 use lib.ListN.{length}
-use Rattle.channel.specs.Answers.{channelValues, numbersOf}
-use Rattle.channel.specs.declared.calls.Answer.{Answer}
-use Rattle.channel.specs.declared.calls.Answer.the-variants.{Done}
+use Rattle.channel_calls.specs.Answers.{channelValues, numbersOf}
+use Rattle.channel_calls.specs.declared.calls.Answer.{Answer}
+use Rattle.channel_calls.specs.declared.calls.Answer.the-variants.{Done}
 use Rattle.frame.specs.Refusals.{wideRefusal}
 use Rattle.power.specs.Power.{powerRefusal, powerAfter}
 use Rattle.wide.specs.Refusals.{callRefusal}

@@ -1,5 +1,5 @@
 // Every call on a module's memory, as a value.
-use channel::calls::ChannelCall;
+use channel_calls::calls::ChannelCall;
 use wide::calls::WideCall;
 
 pub enum Call {

@@ -1,9 +1,9 @@
 // A call on one channel of a module's memory.
 use block::layout::WORDS;
-use channel::calls::Answer;
-use channel::calls::ChannelCall;
-use channel::calls::Given;
-use channel::calls::TestCall;
+use channel_calls::calls::Answer;
+use channel_calls::calls::ChannelCall;
+use channel_calls::calls::Given;
+use channel_calls::calls::TestCall;
 use frame::layout::COUNTERS;
 use frame::layout::MODULE_WORDS;
 use frame::layout::STAMP;
@@ -11,7 +11,7 @@ use frame::layout::THRESHOLD;
 ghost use mathlib.Core.Path.{_≡_};
 ghost use Rattle.block.specs.Layout.{word};
 ghost use Rattle.block.specs.Ranges.{Usable};
-ghost use Rattle.channel.specs.Refusals.{channelRefusal};
+ghost use Rattle.channel_calls.specs.Refusals.{channelRefusal};
 ghost use Rattle.channel.specs.Channel.{blockAnswer};
 ghost use Rattle.frame.specs.Layout.{block};
 ghost use Rattle.module.specs.OnChannel.{Room, counterAt, testCounter, counterAfter, givenOf, acceptedAfter, onAnswer, onAfter};
@@ -59,8 +59,8 @@ fn accept(mem: &mut [u32], channel: u32, call: ChannelCall) -> Answer
     let counter = mem[at];
     let stamp = mem[STAMP];
     let next = counter_after(mem, channel, call);
-    let before = block::status::fault(counter, threshold);
-    let after = block::status::fault(next, threshold);
+    let before = status::rule::fault(counter, threshold);
+    let after = status::rule::fault(next, threshold);
     mem[at] = next;
     let from = MODULE_WORDS + ((channel - 1) as usize) * WORDS;
     let to = from + WORDS;
@@ -85,7 +85,7 @@ pub fn on_channel(mem: &mut [u32], channel: u32, call: ChannelCall) -> Answer
     }
     let from = MODULE_WORDS + ((channel - 1) as usize) * WORDS;
     let to = from + WORDS;
-    let refusal = channel::refusals::refusal(&mem[from..to], call);
+    let refusal = channel_calls::refusals::refusal(&mem[from..to], call);
     if refusal != 0 {
         return Answer::Refused(refusal);
     }

@@ -1,9 +1,9 @@
 // The one entry to a module's memory.
 use crate::calls::Call;
 use crate::on_channel::on_channel;
-use channel::calls::Answer;
+use channel_calls::calls::Answer;
 ghost use mathlib.Core.Path.{_≡_};
-ghost use Rattle.channel.specs.declared.calls.Answer.the-variants.{Done};
+ghost use Rattle.channel_calls.specs.declared.calls.Answer.the-variants.{Done};
 ghost use Rattle.module.specs.OnChannel.{answerUnless};
 ghost use Rattle.module.specs.Perform.{answer, after};
 

@@ -12,11 +12,11 @@ use lib.Seq.{set-append-left, drop-append-le}
 use Rattle.block.specs.Layout.{word, blockWords}
 use Rattle.block.specs.Ranges.{Usable}
 use Rattle.block.proofs.Sound.{each-in}
-use Rattle.channel.specs.Refusals.{channelRefusal}
+use Rattle.channel_calls.specs.Refusals.{channelRefusal}
 use Rattle.channel.specs.Channel.{blockAnswer, blockAfter}
-use Rattle.channel.specs.declared.calls.Answer.{Answer}
-use Rattle.channel.specs.declared.calls.Answer.the-variants.{Done, Refused, Value}
-use Rattle.channel.specs.declared.calls.ChannelCall.{ChannelCall}
+use Rattle.channel_calls.specs.declared.calls.Answer.{Answer}
+use Rattle.channel_calls.specs.declared.calls.Answer.the-variants.{Done, Refused, Value}
+use Rattle.channel_calls.specs.declared.calls.ChannelCall.{ChannelCall}
 use Rattle.channel_laws.specs.Kept.{keptOf, keptFirst}
 use Rattle.channel_laws.proofs.Resets.{first-holds}
 use Rattle.frame.specs.Layout.{count, stamp, resolution, threshold, moduleWords, most, need, base, block, withBlock, Framed}

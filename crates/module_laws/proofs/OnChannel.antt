@@ -13,11 +13,11 @@ use Rattle.word.proofs.Computed.{at}
 use Rattle.block.specs.Layout.{word, blockWords}
 use Rattle.block.specs.Ranges.{Usable}
 use Rattle.block.proofs.Sound.{is-within, no-more}
-use Rattle.channel.specs.Refusals.{channelRefusal}
+use Rattle.channel_calls.specs.Refusals.{channelRefusal}
 use Rattle.channel.specs.Channel.{blockAfter}
-use Rattle.channel.specs.declared.calls.TestCall.the-variants.{Sample, ResetTest, InitiateTest}
-use Rattle.channel.specs.declared.calls.ChannelCall.{ChannelCall}
-use Rattle.channel.specs.declared.calls.ChannelCall.the-variants.{Settings, Memories, Status, Tests, Reads, Receive, Transmit}
+use Rattle.channel_calls.specs.declared.calls.TestCall.the-variants.{Sample, ResetTest, InitiateTest}
+use Rattle.channel_calls.specs.declared.calls.ChannelCall.{ChannelCall}
+use Rattle.channel_calls.specs.declared.calls.ChannelCall.the-variants.{Settings, Memories, Status, Tests, Reads, Receive, Transmit}
 use Rattle.channel_laws.proofs.Calls.{left}
 use Rattle.frame.specs.Layout.{count, counters, most, base, block}
 use Rattle.frame.specs.Counters.{top, sampled}

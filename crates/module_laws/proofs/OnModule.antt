@@ -10,7 +10,7 @@ use lib.ListN.{getD, set}
 use Rattle.block.specs.Layout.{word, latch}
 use Rattle.block.specs.Ranges.{Usable}
 use Rattle.block.proofs.Sound.{is-within}
-use Rattle.block.proofs.Keeps.{rule-keeps}
+use Rattle.status.proofs.Keeps.{rule-keeps}
 use Rattle.channel_laws.specs.Kept.{keptOf}
 use Rattle.channel_laws.proofs.Holds.{store-kept}
 use Rattle.frame.specs.Layout.{count, stamp, resolution, threshold, moduleWords, block}

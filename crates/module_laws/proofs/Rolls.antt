@@ -7,8 +7,8 @@ use native.Mathlib.Omega.{arith}
 use lib.ListN.{length}
 use Rattle.block.specs.Clearing.{counted}
 use Rattle.block.specs.Fifos.{Fifo, accepts, gives, overwrites, Change, Stays, Adds, Overwrites, Takes, Clears, Begins, changed, overwrittenAfter}
-use Rattle.channel.specs.declared.calls.ChannelCall.{ChannelCall}
-use Rattle.channel.specs.declared.calls.Answer.{Answer}
+use Rattle.channel_calls.specs.declared.calls.ChannelCall.{ChannelCall}
+use Rattle.channel_calls.specs.declared.calls.Answer.{Answer}
 use Rattle.channel_laws.specs.Kept.{Kept, receiveChange, transmitChange, keptAfter, keptReset, keptFirst}
 use Rattle.channel_laws.proofs.Holds.{parts}
 use Rattle.module_laws.specs.Reduced.{rolled, reducedFifo, reduced}

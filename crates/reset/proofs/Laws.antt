@@ -6,7 +6,7 @@ use mathlib.Core.List.{List}
 use native.Mathlib.Omega.{arith}
 use lib.ListN.{length, drop, length-append, length-drop, length-set, List·getD-append}
 use Rattle.block.specs.Layout.{word}
-use Rattle.block.specs.Tests.{blockReset}
+use Rattle.status.specs.Tests.{blockReset}
 use Rattle.frame.specs.Layout.{count, moduleWords, Framed, block}
 use Rattle.frame.proofs.Blocks.{block-length, block-behind}
 use Rattle.frame.proofs.Each.{Own, each-length, each-block}

@@ -5,18 +5,17 @@ use mathlib.Core.Bool.{cond}
 use lib.Dec.{eqb}
 use lib.ListN.{drop}
 use Rattle.block.specs.Layout.{word}
-use Rattle.block.specs.Tests.{blockReset}
+use Rattle.status.specs.Tests.{blockReset}
 use Rattle.frame.specs.Layout.{count, moduleWords, block}
 use Rattle.frame.specs.Each.{eachTo}
 use Rattle.frame.specs.Refusals.{wideRefusal}
 use Rattle.power.specs.Power.{factoryPart}
 
--- "all FIFOs cleared, async words dropped, transmitters idle at command 0, settings to factory, .. latches and enables 0, all edge, rule not run":
--- a channel's block; "Match sets .., mailboxes, schedule, message RAM and the counts below stay"
+-- "all FIFOs cleared, async words dropped, transmitters idle at command 0, settings to factory, .. latches and enables 0, all edge": a channel's block
 abbrev pub resetChannel : List ℕ → ℕ → List ℕ
 resetChannel m ch = blockReset (block m ch)
 
--- "Module reset: all FIFOs cleared": on channels 1 to n
+-- "rule not run. Match sets .., mailboxes, schedule, message RAM and the counts below stay.": channels 1 to n, and nothing but their reset
 abbrev pub resetTo : ℕ → List ℕ → List ℕ
 resetTo n m = eachTo resetChannel n m
 

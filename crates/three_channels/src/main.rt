@@ -1,13 +1,13 @@
 // Three channels in one lent memory: words arrive on the first and are read, a schedule runs on the second, the third overruns.
-use channel::calls::Answer;
-use channel::calls::ChannelCall;
-use channel::calls::MemoryCall;
-use channel::calls::ReadCall;
-use channel::calls::ReceiveCall;
-use channel::calls::Setting;
-use channel::calls::SettingCall;
-use channel::calls::StatusCall;
-use channel::calls::TransmitCall;
+use channel_calls::calls::Answer;
+use channel_calls::calls::ChannelCall;
+use channel_calls::calls::MemoryCall;
+use channel_calls::calls::ReadCall;
+use channel_calls::calls::ReceiveCall;
+use channel_calls::calls::Setting;
+use channel_calls::calls::SettingCall;
+use channel_calls::calls::StatusCall;
+use channel_calls::calls::TransmitCall;
 use libc::STDOUT_FILENO;
 use module::calls::Call;
 use module::perform::perform;

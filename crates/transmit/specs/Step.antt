@@ -8,7 +8,7 @@ use Rattle.word.specs.Parity.{asSent}
 use Rattle.block.specs.Layout.{word, transmitter, parity, transmitMode, rate, transmitLevel, state, address, asyncMark, asyncWord, messageRam, scheduleRam}
 use Rattle.block.specs.Fifos.{transmitPlaces, oldestEntry, entryTaken}
 use Rattle.block.specs.Memories.{ramRead}
-use Rattle.block.specs.Status.{interruptSignal}
+use Rattle.status.specs.Status.{interruptSignal}
 use Rattle.schedule.specs.Codes.{idle, running, paused, messageAddress}
 use Rattle.schedule.specs.Schedule.{stepped}
 use Rattle.schedule.specs.declared.Place.{Place}

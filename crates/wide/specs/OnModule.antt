@@ -3,8 +3,8 @@ use Prim.Native.Nat.{ℕ, _+_, _%_, _^_}
 use mathlib.Core.List.{List}
 use lib.ListN.{set}
 use Rattle.block.specs.Layout.{word}
-use Rattle.channel.specs.declared.calls.Answer.{Answer}
-use Rattle.channel.specs.declared.calls.Answer.the-variants.{Done, Value}
+use Rattle.channel_calls.specs.declared.calls.Answer.{Answer}
+use Rattle.channel_calls.specs.declared.calls.Answer.the-variants.{Done, Value}
 use Rattle.frame.specs.Layout.{stamp, resolution, threshold}
 use Rattle.wide.specs.Rule.{ruledAll}
 use Rattle.wide.specs.declared.calls.WideCall.{WideCall}

@@ -8,7 +8,7 @@ ghost use mathlib.Core.Path.{_≡_};
 ghost use Prim.Native.Nat.{_≤_};
 ghost use lib.ListN.{length};
 ghost use Rattle.block.specs.Layout.{word, Whole};
-ghost use Rattle.block.specs.Status.{ruled};
+ghost use Rattle.status.specs.Status.{ruled};
 ghost use Rattle.channel.specs.Channel.{holding};
 ghost use Rattle.frame.specs.Layout.{count, Framed, withBlock};
 ghost use Rattle.wide.specs.Rule.{ruledChannel, ruledTo};
@@ -18,11 +18,11 @@ fn rule_block(block: &mut [u32], before: u32, after: u32)
     requires { ⌜ (Whole (now block)) × (before ≤ 1) × (after ≤ 1) ⌝ }
     ensures { λ r. ⌜ now (block .exit) ≡ ruled (holding before (now (block .entry))) (holding after (now (block .entry))) (now (block .entry)) ⌝ }
 {
-    let conditions = block::status::conditions(block);
-    block::status::rule(
+    let conditions = status::rule::conditions(block);
+    status::rule::rule(
         block,
-        conditions + block::status::FAULT * before,
-        conditions + block::status::FAULT * after,
+        conditions + status::rule::FAULT * before,
+        conditions + status::rule::FAULT * after,
     );
 }
 
@@ -32,8 +32,8 @@ fn rule_channel(mem: &mut [u32], channel: u32, old: u32)
     ensures { λ r. ⌜ now (mem .exit) ≡ withBlock (now (mem .entry)) channel (ruledChannel old (now (mem .entry)) channel) ⌝ }
 {
     let counter = mem[COUNTERS + ((channel - 1) as usize)];
-    let before = block::status::fault(counter, old);
-    let after = block::status::fault(counter, mem[THRESHOLD]);
+    let before = status::rule::fault(counter, old);
+    let after = status::rule::fault(counter, mem[THRESHOLD]);
     let from = MODULE_WORDS + ((channel - 1) as usize) * WORDS;
     let to = from + WORDS;
     rule_block(&mut mem[from..to], before, after);

@@ -2,9 +2,9 @@
 -- Assumes nothing.
 use native.Mathlib.Omega.{arith}
 use mathlib.Core.Path.{refl, ap}
-use Rattle.channel.proofs.Accepted.{not-above, not-below}
+use Rattle.channel_calls.proofs.Accepted.{not-above, not-below}
 use Rattle.channel.specs.Groups.{entryAnswer}
-use Rattle.channel.specs.declared.calls.Answer.the-variants.{Arrived}
+use Rattle.channel_calls.specs.declared.calls.Answer.the-variants.{Arrived}
 use borrow.Author.Needs.{needs}
 use Rattle.channel.proofs.receiving.on_receive.Statement.{statement}
 use Rattle.channel.proofs.receiving.on_receive.Tie as tie

@@ -2,8 +2,8 @@
 -- Assumes nothing.
 use native.Mathlib.Omega.{arith}
 use mathlib.Core.Path.{ap}
-use Rattle.channel.proofs.Accepted.{not-above}
-use Rattle.channel.specs.declared.calls.Answer.the-variants.{Stepped}
+use Rattle.channel_calls.proofs.Accepted.{not-above}
+use Rattle.channel_calls.specs.declared.calls.Answer.the-variants.{Stepped}
 use borrow.Author.Needs.{needs}
 use Rattle.channel.proofs.transmitting.on_transmit.Statement.{statement}
 use Rattle.channel.proofs.transmitting.on_transmit.Tie as tie

@@ -2,7 +2,7 @@
 -- Assumes nothing.
 use Prim.Native.Nat.{ℕ}
 use mathlib.Core.Path.{ap, _∙_}
-use Rattle.channel.specs.declared.calls.Answer.the-variants.{Done}
+use Rattle.channel_calls.specs.declared.calls.Answer.the-variants.{Done}
 use Rattle.module.specs.OnChannel.{answerUnless}
 use borrow.Author.Needs.{needs}
 use Rattle.module.proofs.perform.perform.Statement.{statement}

@@ -1,0 +1,164 @@
+// The seven conditions, the latch and the rule. A mask has a bit for each condition: bit 0 weighs 1, bit 6 weighs 64.
+use block::layout::ALMOST_EMPTY;
+use block::layout::ALMOST_FULL;
+use block::layout::ENABLE;
+use block::layout::LATCH;
+use block::layout::LEVEL_MASK;
+use block::layout::RECEIVE_LEVEL;
+use block::layout::RECEIVE_SIZE;
+use block::layout::TRANSMIT_LEVEL;
+ghost use mathlib.Core.Path.{_≡_};
+ghost use Prim.Native.Nat.{_≤_, _<_};
+ghost use Rattle.block.specs.Layout.{Whole};
+ghost use Rattle.status.specs.Status.{flag, conditions, faulty, latchBit, latched, ruled, keptBit, kept, latchCleared, commonBit, common, pending};
+
+// The conditions that a call may signal, and the fault.
+pub const PARITY_ERROR: u32 = 16;
+
+pub const INTERRUPT: u32 = 32;
+
+pub const FAULT: u32 = 64;
+
+// A weight where a test holds, else 0.
+fn flag(test: bool, weight: u32) -> u32
+    ensures { λ r. ⌜ (r ≡ flag test weight) × (r ≤ weight) ⌝ }
+{
+    if test {
+        return weight;
+    }
+    0
+}
+
+// The conditions 0 to 3 that hold of a block.
+pub fn conditions(block: &[u32]) -> u32
+    requires { ⌜ Whole (now block) ⌝ }
+    ensures { λ r. ⌜ (r ≡ conditions (now (block .entry))) × (r < 16) ⌝ }
+{
+    let level = block[RECEIVE_LEVEL];
+    let sending = block[TRANSMIT_LEVEL];
+    flag(block[ALMOST_FULL] <= level, 1)
+        + flag(level == block[RECEIVE_SIZE], 2)
+        + flag(sending <= block[ALMOST_EMPTY], 4)
+        + flag(sending == 0, 8)
+}
+
+// Condition 6: whether a fault counter is above the threshold, 1 or 0.
+pub fn fault(counter: u32, threshold: u32) -> u32
+    ensures { λ r. ⌜ (r ≡ faulty counter threshold) × (r ≤ 1) ⌝ }
+{
+    flag(threshold < counter, 1)
+}
+
+// The latch bit of one condition after a call: its weight or 0.
+fn latch_bit(weight: u32, latch: u32, level: u32, before: u32, holds: u32) -> u32
+    requires { ⌜ 0 < weight ⌝ }
+    ensures { λ r. ⌜ (r ≡ latchBit weight latch level before holds) × (r ≤ weight) ⌝ }
+{
+    if latch / weight % 2 == 1 {
+        return weight;
+    }
+    if holds / weight % 2 == 0 {
+        return 0;
+    }
+    if level / weight % 2 == 1 {
+        return weight;
+    }
+    if before / weight % 2 == 1 {
+        return 0;
+    }
+    weight
+}
+
+// The latch after a call.
+fn latched(latch: u32, level: u32, before: u32, holds: u32) -> u32
+    ensures { λ r. ⌜ r ≡ latched latch level before holds ⌝ }
+{
+    latch_bit(1, latch, level, before, holds)
+        + latch_bit(2, latch, level, before, holds)
+        + latch_bit(4, latch, level, before, holds)
+        + latch_bit(8, latch, level, before, holds)
+        + latch_bit(16, latch, level, before, holds)
+        + latch_bit(32, latch, level, before, holds)
+        + latch_bit(64, latch, level, before, holds)
+}
+
+// The rule that runs after every accepted call, with the conditions before it and those that hold now.
+pub fn rule(block: &mut [u32], before: u32, holds: u32)
+    requires { ⌜ Whole (now block) ⌝ }
+    ensures { λ r. ⌜ now (block .exit) ≡ ruled before holds (now (block .entry)) ⌝ }
+{
+    block[LATCH] = latched(block[LATCH], block[LEVEL_MASK], before, holds);
+}
+
+// A latch bit that a write of ones leaves.
+fn kept_bit(weight: u32, latch: u32, mask: u32) -> u32
+    requires { ⌜ 0 < weight ⌝ }
+    ensures { λ r. ⌜ (r ≡ keptBit weight latch mask) × (r ≤ weight) ⌝ }
+{
+    if mask / weight % 2 == 1 {
+        return 0;
+    }
+    if latch / weight % 2 == 1 {
+        return weight;
+    }
+    0
+}
+
+// The latch bits that a write of ones leaves.
+fn kept(latch: u32, mask: u32) -> u32
+    ensures { λ r. ⌜ r ≡ kept latch mask ⌝ }
+{
+    kept_bit(1, latch, mask)
+        + kept_bit(2, latch, mask)
+        + kept_bit(4, latch, mask)
+        + kept_bit(8, latch, mask)
+        + kept_bit(16, latch, mask)
+        + kept_bit(32, latch, mask)
+        + kept_bit(64, latch, mask)
+}
+
+// Clears the latch bits that are ones in a mask.
+pub fn clear_latch(block: &mut [u32], mask: u32)
+    requires { ⌜ Whole (now block) ⌝ }
+    ensures { λ r. ⌜ now (block .exit) ≡ latchCleared mask (now (block .entry)) ⌝ }
+{
+    block[LATCH] = kept(block[LATCH], mask);
+}
+
+// A bit that is latched and enabled.
+fn common_bit(weight: u32, latch: u32, enable: u32) -> u32
+    requires { ⌜ 0 < weight ⌝ }
+    ensures { λ r. ⌜ (r ≡ commonBit weight latch enable) × (r ≤ weight) ⌝ }
+{
+    if latch / weight % 2 == 1 {
+        if enable / weight % 2 == 1 {
+            return weight;
+        }
+        return 0;
+    }
+    0
+}
+
+// The bits that are latched and enabled.
+fn common(latch: u32, enable: u32) -> u32
+    ensures { λ r. ⌜ r ≡ common latch enable ⌝ }
+{
+    common_bit(1, latch, enable)
+        + common_bit(2, latch, enable)
+        + common_bit(4, latch, enable)
+        + common_bit(8, latch, enable)
+        + common_bit(16, latch, enable)
+        + common_bit(32, latch, enable)
+        + common_bit(64, latch, enable)
+}
+
+// Whether an interrupt is pending: 1 or 0.
+pub fn pending(block: &[u32]) -> u32
+    requires { ⌜ Whole (now block) ⌝ }
+    ensures { λ r. ⌜ r ≡ pending (now (block .entry)) ⌝ }
+{
+    if common(block[LATCH], block[ENABLE]) == 0 {
+        return 0;
+    }
+    1
+}
