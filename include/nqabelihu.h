@@ -210,7 +210,7 @@ enum {
 /* ---- every call by name ----
  *
  * Each gives the answer's number, NQABELIHU_DONE or a refusal. Beside a refusal every result is 0 and no word of the memory is changed.
- * The pointers for results must not be null.
+ * Reads on a channel run the status rule too, and may set latch bits: the memory is never const. The pointers for results must not be null.
  */
 
 /* A module's memory: the lent words, and how many. */
@@ -280,7 +280,7 @@ static inline uint32_t nqabelihu_power_up(nqabelihu_memory memory, uint32_t coun
 }
 
 /* FIFOs cleared, async words dropped, transmitters idle, factory settings, stamp, fault counters and latches 0. Match sets, mailboxes,
- * both RAMs and the counts of fates stay. */
+ * both RAMs and the counts of fates stay. NQABELIHU_NO_CALL from a library that does not have it. */
 static inline uint32_t nqabelihu_module_reset(nqabelihu_memory memory)
 {
     return nqabelihu_do(memory, NQABELIHU_OP_MODULE_RESET, 0, 0, 0);
