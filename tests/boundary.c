@@ -334,12 +334,11 @@ static void same(const char *name, uint32_t number, uint32_t op, uint32_t channe
 
 static void by_name(void)
 {
-    static const uint32_t sound[NQABELIHU_SETTINGS] = {1, 1, 0, 1, 1, 1, 1, 2, 9, 7, 3, 99};
+    static const uint32_t sound[12] = {1, 1, 0, 1, 1, 1, 1, 2, 9, 7, 3, 99};
     size_t need = nqabelihu_words(COUNT);
-    uint32_t r[NQABELIHU_VALUES], setting, number;
+    uint32_t r[NQABELIHU_VALUES] = {0}, setting, number;
     nqabelihu_entry e;
     nqabelihu_output o;
-    nqabelihu_counts c;
     int turn;
     named.words = (uint32_t *)calloc(need, sizeof(uint32_t));
     named.count = need;
@@ -347,9 +346,9 @@ static void by_name(void)
     CHECK(named.words != NULL && twin != NULL, "no memory");
 
     same("power_up", nqabelihu_power_up(named, COUNT), 1, 0, COUNT, 0, 0, r);
-    for (setting = 0; setting <= NQABELIHU_SETTINGS; setting++) {
-        uint32_t value = setting < NQABELIHU_SETTINGS ? sound[setting] : 1;
-        uint32_t write = setting < NQABELIHU_SETTINGS ? 32 + setting : 0, read = setting < NQABELIHU_SETTINGS ? 64 + setting : 0;
+    for (setting = 0; setting <= 12; setting++) {
+        uint32_t value = setting < 12 ? sound[setting] : 1;
+        uint32_t write = setting < 12 ? 32 + setting : 0, read = setting < 12 ? 64 + setting : 0;
         same("write_setting", nqabelihu_write_setting(named, 2, setting, value), write, 2, value, 0, 0, r);
         same("read_setting", nqabelihu_read_setting(named, 2, setting, r), read, 2, 0, 0, 1, r);
     }
@@ -370,6 +369,7 @@ static void by_name(void)
         number = nqabelihu_read_mailbox(named, 2, word % 1024, &e);
         same("read_mailbox", number, 130, 2, word % 1024, 0, 3, (uint32_t[]){e.status, e.word, e.stamp});
         same("write_transmit_fifo", nqabelihu_write_transmit_fifo(named, 1, word), 133, 1, word, 0, 0, r);
+        same("read_transmit_level", nqabelihu_read_transmit_level(named, 1, r), 155, 1, 0, 0, 1, r);
         same("write_schedule", nqabelihu_write_schedule(named, 2, 0, NQABELIHU_COMMAND_MESSAGE + 5), 139, 2, 0, 0x1005, 0, r);
         same("write_schedule", nqabelihu_write_schedule(named, 2, 1, NQABELIHU_COMMAND_GAP + 6), 139, 2, 1, 0x2006, 0, r);
         same("read_schedule", nqabelihu_read_schedule(named, 2, 1, r), 140, 2, 1, 0, 1, r);
@@ -382,11 +382,14 @@ static void by_name(void)
         same("trigger", nqabelihu_trigger(named, 2), 135, 2, 0, 0, 0, r);
         number = nqabelihu_step(named, 2, &o);
         same("step", number, 138, 2, 0, 0, 4, (uint32_t[]){o.form, o.x, o.y, o.z});
+        same("stop", nqabelihu_stop(named, 2), 137, 2, 0, 0, 0, r);
+        same("trigger", nqabelihu_trigger(named, 2), 135, 2, 0, 0, 0, r);
+        number = nqabelihu_step(named, 2, &o);
+        same("step", number, 138, 2, 0, 0, 4, (uint32_t[]){o.form, o.x, o.y, o.z});
         same("pause", nqabelihu_pause(named, 2), 136, 2, 0, 0, 0, r);
         same("trigger", nqabelihu_trigger(named, 2), 135, 2, 0, 0, 0, r);
         number = nqabelihu_step(named, 2, &o);
         same("step", number, 138, 2, 0, 0, 4, (uint32_t[]){o.form, o.x, o.y, o.z});
-        same("stop", nqabelihu_stop(named, 2), 137, 2, 0, 0, 0, r);
         number = nqabelihu_step(named, 1, &o);
         same("step", number, 138, 1, 0, 0, 4, (uint32_t[]){o.form, o.x, o.y, o.z});
         same("sample", nqabelihu_sample(named, 1, 1), 143, 1, 1, 0, 0, r);
@@ -397,16 +400,10 @@ static void by_name(void)
         same("read_level_mask", nqabelihu_read_level_mask(named, 1, r), 151, 1, 0, 0, 1, r);
         same("read_status", nqabelihu_read_status(named, 1, r), 146, 1, 0, 0, 1, r);
         same("read_receive_level", nqabelihu_read_receive_level(named, 1, r), 154, 1, 0, 0, 1, r);
-        same("read_transmit_level", nqabelihu_read_transmit_level(named, 1, r), 155, 1, 0, 0, 1, r);
     }
     number = nqabelihu_read_receive_fifo(named, 1, &e);
     same("read_receive_fifo", number, 129, 1, 0, 0, 3, (uint32_t[]){e.status, e.word, e.stamp});
     CHECK(e.word == 0x600000D4 && e.stamp == 50, "the oldest entry");
-    number = nqabelihu_read_counts(named, 1, &c);
-    same("read_counts", number, 153, 1, 0, 0, 7,
-         (uint32_t[]){c.receive_accepted, c.receive_read, c.receive_cleared, c.receive_overwritten, c.transmit_accepted, c.transmit_sent,
-                      c.transmit_cleared});
-    CHECK(c.receive_accepted == 3 && c.receive_read == 1 && c.transmit_accepted == 3 && c.transmit_sent == 3, "the counts");
     same("clear_latch", nqabelihu_clear_latch(named, 1, 127), 147, 1, 127, 0, 0, r);
     same("initiate_test", nqabelihu_initiate_test(named, 1, 1), 145, 1, 1, 0, 0, r);
     same("reset_test", nqabelihu_reset_test(named, 1), 144, 1, 0, 0, 0, r);
@@ -415,6 +412,203 @@ static void by_name(void)
     same("read_status", nqabelihu_read_status(named, 4, r), 146, 4, 0, 0, 1, r);
     free(named.words);
     free(twin);
+}
+
+/* ---- what the header's constants mean ---- */
+
+static nqabelihu_memory fresh(uint32_t *words)
+{
+    nqabelihu_memory memory;
+    memory.words = words;
+    memory.count = NQABELIHU_WORDS(COUNT);
+    CHECK(nqabelihu_power_up(memory, COUNT) == NQABELIHU_DONE, "power-up");
+    return memory;
+}
+
+#define DO(call) CHECK((call) == NQABELIHU_DONE, #call)
+
+static uint32_t arrives(nqabelihu_memory memory, uint32_t channel, uint32_t word)
+{
+    uint32_t outcome;
+    DO(nqabelihu_arrive(memory, channel, word, &outcome));
+    return outcome;
+}
+
+static nqabelihu_output steps(nqabelihu_memory memory, uint32_t channel)
+{
+    nqabelihu_output output;
+    DO(nqabelihu_step(memory, channel, &output));
+    return output;
+}
+
+/* The latched conditions; they are then cleared. */
+static uint32_t latched(nqabelihu_memory memory, uint32_t channel)
+{
+    uint32_t status;
+    DO(nqabelihu_read_status(memory, channel, &status));
+    DO(nqabelihu_clear_latch(memory, channel, NQABELIHU_ALL_CONDITIONS));
+    return status;
+}
+
+static void answers(nqabelihu_memory m)
+{
+    nqabelihu_memory less = m;
+    nqabelihu_entry entry;
+    uint32_t at, old = m.words[2];
+    less.count--;
+    CHECK(nqabelihu_trigger(less, 1) == NQABELIHU_SHORT, "short");
+    m.words[2] = 4;
+    CHECK(nqabelihu_trigger(m, 1) == NQABELIHU_UNSOUND, "unsound");
+    m.words[2] = old;
+    CHECK(nqabelihu_trigger(m, COUNT + 1) == NQABELIHU_CHANNEL, "channel");
+    CHECK(nqabelihu_write_setting(m, 1, NQABELIHU_RATE, 3) == NQABELIHU_RANGE, "range");
+    CHECK(nqabelihu_write_match(m, 1, NQABELIHU_MAILBOXES, 1) == NQABELIHU_RANGE, "range");
+    DO(nqabelihu_write_match(m, 1, NQABELIHU_MAILBOXES - 1, 1));
+    CHECK(nqabelihu_write_message(m, 1, NQABELIHU_RAM_WORDS, 1) == NQABELIHU_RANGE, "range");
+    DO(nqabelihu_write_message(m, 1, NQABELIHU_RAM_WORDS - 1, 1));
+    CHECK(nqabelihu_trigger(m, 1) == NQABELIHU_MODE, "mode");
+    for (at = 0; at < NQABELIHU_FIFO_ENTRIES; at++)
+        DO(nqabelihu_write_transmit_fifo(m, 1, at));
+    CHECK(nqabelihu_write_transmit_fifo(m, 1, at) == NQABELIHU_FULL, "full");
+    CHECK(nqabelihu_read_receive_fifo(m, 1, &entry) == NQABELIHU_EMPTY, "empty");
+    CHECK(NQABELIHU_SETTINGS == 12 && nqabelihu_read_setting(m, 1, NQABELIHU_SETTINGS, &at) == NQABELIHU_NO_CALL, "no call");
+}
+
+static void receiving(nqabelihu_memory m)
+{
+    nqabelihu_entry entry;
+    CHECK(arrives(m, 1, 1) == NQABELIHU_IGNORED, "ignored");
+    DO(nqabelihu_write_setting(m, 1, NQABELIHU_RECEIVER, 1));
+    DO(nqabelihu_write_setting(m, 1, NQABELIHU_MATCH, 1));
+    CHECK(arrives(m, 1, 1) == NQABELIHU_FILTERED, "filtered");
+    DO(nqabelihu_write_setting(m, 1, NQABELIHU_MATCH, 0));
+    DO(nqabelihu_write_setting(m, 1, NQABELIHU_RECEIVE_SIZE, 3));
+    DO(nqabelihu_write_setting(m, 1, NQABELIHU_ALMOST_FULL, 2));
+    CHECK(arrives(m, 1, 1) == NQABELIHU_APPENDED && latched(m, 1) == 0, "appended");
+    CHECK(arrives(m, 1, 2) == NQABELIHU_APPENDED && latched(m, 1) == NQABELIHU_IS_ALMOST_FULL, "almost full");
+    CHECK(arrives(m, 1, 3) == NQABELIHU_APPENDED, "appended");
+    CHECK(latched(m, 1) == NQABELIHU_IS_FULL + NQABELIHU_IS_PARITY_ERROR, "full, parity error");
+    CHECK(arrives(m, 1, 4) == NQABELIHU_DROPPED, "dropped");
+    DO(nqabelihu_write_setting(m, 1, NQABELIHU_FIFO_KIND, NQABELIHU_CIRCULAR));
+    CHECK(arrives(m, 1, 4) == NQABELIHU_OVERWRITING, "overwriting");
+    DO(nqabelihu_write_setting(m, 1, NQABELIHU_FIFO_KIND, NQABELIHU_BOUNDED));
+    CHECK(arrives(m, 1, 4) == NQABELIHU_DROPPED, "dropped");
+    DO(nqabelihu_read_receive_fifo(m, 1, &entry));
+    CHECK(entry.status == 0 && entry.word == 2, "oldest entry");
+    DO(nqabelihu_read_receive_fifo(m, 1, &entry));
+    CHECK(entry.status == NQABELIHU_PARITY_WRONG && entry.word == 3 && entry.stamp == 0, "entry with a parity error");
+    /* Parity off, stamps on, mailbox mode. */
+    DO(nqabelihu_advance_stamp(m, 7));
+    DO(nqabelihu_write_setting(m, 1, NQABELIHU_PARITY, 0));
+    DO(nqabelihu_write_setting(m, 1, NQABELIHU_STAMPS, 1));
+    DO(nqabelihu_write_setting(m, 1, NQABELIHU_RECEIVE_MODE, NQABELIHU_MAILBOX));
+    CHECK(arrives(m, 1, 3) == NQABELIHU_APPENDED, "appended");
+    DO(nqabelihu_read_mailbox(m, 1, 3, &entry));
+    CHECK(entry.status == NQABELIHU_NEW && entry.word == 3 && entry.stamp == 7, "new mailbox");
+    DO(nqabelihu_write_setting(m, 1, NQABELIHU_RECEIVE_MODE, NQABELIHU_FIFO));
+    CHECK(nqabelihu_read_receive_fifo(m, 1, &entry) == NQABELIHU_EMPTY, "cleared by the change of mode");
+}
+
+static void is_output(nqabelihu_output o, uint32_t form, uint32_t x, uint32_t y, uint32_t z, int line)
+{
+    CHECK(o.form == form && o.x == x && o.y == y && o.z == z, "output of line %d: %u %u %u %u", line, (unsigned)o.form, (unsigned)o.x,
+          (unsigned)o.y, (unsigned)o.z);
+}
+
+#define STEP(form, x, y, z) is_output(steps(m, 2), form, x, y, z, __LINE__)
+
+static void transmitting(nqabelihu_memory m)
+{
+    static const uint32_t commands[] = {
+        NQABELIHU_COMMAND_MESSAGE + 1, NQABELIHU_COMMAND_FIXED_GAP + 2, NQABELIHU_COMMAND_GAP + 2, NQABELIHU_COMMAND_GAP + 2,
+        NQABELIHU_COMMAND_PAUSE,       NQABELIHU_COMMAND_INTERRUPT,     NQABELIHU_COMMAND_JUMP + 8, 0x7000,
+        NQABELIHU_COMMAND_STOP};
+    uint32_t at;
+    DO(nqabelihu_write_setting(m, 2, NQABELIHU_ALMOST_EMPTY, 1));
+    DO(nqabelihu_write_setting(m, 2, NQABELIHU_RATE, 9));
+    DO(nqabelihu_write_transmit_fifo(m, 2, 1));
+    DO(nqabelihu_write_transmit_fifo(m, 2, 2));
+    DO(nqabelihu_write_transmit_fifo(m, 2, 3));
+    STEP(NQABELIHU_QUIET, 0, 0, 0);
+    DO(nqabelihu_write_setting(m, 2, NQABELIHU_TRANSMITTER, 1));
+    latched(m, 2);
+    STEP(NQABELIHU_FIFO_WORD, 1, 9, 0);
+    CHECK(latched(m, 2) == 0, "two words left");
+    DO(nqabelihu_write_setting(m, 2, NQABELIHU_TRANSMIT_MODE, NQABELIHU_TRIGGERED));
+    STEP(NQABELIHU_QUIET, 0, 0, 0);
+    DO(nqabelihu_trigger(m, 2));
+    STEP(NQABELIHU_FIFO_WORD, 2, 9, 0);
+    CHECK(latched(m, 2) == NQABELIHU_IS_ALMOST_EMPTY, "almost empty");
+    DO(nqabelihu_stop(m, 2));
+    DO(nqabelihu_write_setting(m, 2, NQABELIHU_TRANSMIT_MODE, NQABELIHU_IMMEDIATE));
+    STEP(NQABELIHU_FIFO_WORD, 0x80000003, 9, 0);
+    CHECK(latched(m, 2) == NQABELIHU_IS_EMPTY, "empty");
+
+    for (at = 0; at < 9; at++)
+        DO(nqabelihu_write_schedule(m, 2, at, commands[at]));
+    DO(nqabelihu_write_message(m, 2, 1, 0x100));
+    DO(nqabelihu_write_message(m, 2, 2, 50));
+    DO(nqabelihu_write_setting(m, 2, NQABELIHU_TRANSMIT_MODE, NQABELIHU_SCHEDULED));
+    DO(nqabelihu_write_async(m, 2, 0x200));
+    DO(nqabelihu_trigger(m, 2));
+    STEP(NQABELIHU_MESSAGE, 0x100, 0, 0);
+    STEP(NQABELIHU_NULL_TIME, 50, 0, 0);
+    STEP(NQABELIHU_ASYNC, 4, 0x200, 14);
+    STEP(NQABELIHU_NULL_TIME, 50, 0, 0);
+    STEP(NQABELIHU_QUIET, 0, 0, 0);
+    STEP(NQABELIHU_QUIET, 0, 0, 0);
+    CHECK(latched(m, 2) == 0, "paused before the interrupt");
+    DO(nqabelihu_trigger(m, 2));
+    STEP(NQABELIHU_QUIET, 0, 0, 0);
+    CHECK(latched(m, 2) == NQABELIHU_IS_INTERRUPT, "interrupt");
+    STEP(NQABELIHU_QUIET, 0, 0, 0); /* the jump, over the reserved command */
+    STEP(NQABELIHU_QUIET, 0, 0, 0); /* the stop */
+    STEP(NQABELIHU_QUIET, 0, 0, 0);
+    DO(nqabelihu_write_schedule(m, 2, 0, 0x7000));
+    DO(nqabelihu_write_schedule(m, 2, 1, NQABELIHU_COMMAND_JUMP + 7));
+    DO(nqabelihu_write_schedule(m, 2, 0, NQABELIHU_COMMAND_JUMP + 1));
+    DO(nqabelihu_trigger(m, 2));
+    STEP(NQABELIHU_QUIET, 0, 0, 0);
+    STEP(NQABELIHU_QUIET, 0, 0, 0);
+    STEP(NQABELIHU_RESERVED, 7, 0, 0);
+}
+
+/* Every count has a number of its own. */
+static void fates(nqabelihu_memory m)
+{
+    nqabelihu_counts c;
+    nqabelihu_entry entry;
+    uint32_t at;
+    DO(nqabelihu_write_setting(m, 3, NQABELIHU_RECEIVER, 1));
+    DO(nqabelihu_write_setting(m, 3, NQABELIHU_TRANSMITTER, 1));
+    DO(nqabelihu_write_setting(m, 3, NQABELIHU_FIFO_KIND, NQABELIHU_CIRCULAR));
+    DO(nqabelihu_write_setting(m, 3, NQABELIHU_RECEIVE_SIZE, 4));
+    for (at = 0; at < 9; at++)
+        arrives(m, 3, at);
+    DO(nqabelihu_read_receive_fifo(m, 3, &entry));
+    CHECK(entry.word == 5, "the oldest that is left");
+    for (at = 0; at < 6; at++)
+        DO(nqabelihu_write_transmit_fifo(m, 3, at));
+    steps(m, 3);
+    steps(m, 3);
+    latched(m, 3);
+    DO(nqabelihu_initiate_test(m, 3, 0));
+    DO(nqabelihu_read_counts(m, 3, &c));
+    CHECK(c.receive_accepted == 9 && c.receive_read == 1 && c.receive_cleared == 3 && c.receive_overwritten == 5, "fates of the receive FIFO");
+    CHECK(c.transmit_accepted == 6 && c.transmit_sent == 2 && c.transmit_cleared == 4, "fates of the transmit FIFO");
+    latched(m, 3);
+    DO(nqabelihu_write_threshold(m, 1));
+    DO(nqabelihu_sample(m, 3, 1));
+    CHECK(latched(m, 3) == NQABELIHU_IS_FAULT, "fault");
+}
+
+static void meanings(void)
+{
+    uint32_t *words = between_guards(NQABELIHU_WORDS(COUNT), AT_END);
+    answers(fresh(words));
+    receiving(fresh(words));
+    transmitting(fresh(words));
+    fates(fresh(words));
 }
 
 int main(void)
@@ -432,6 +626,7 @@ int main(void)
     every_op();
     random_calls();
     by_name();
+    meanings();
     printf("%lu checks of the C interface\n", checks);
     return 0;
 }
