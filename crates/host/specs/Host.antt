@@ -1,12 +1,17 @@
--- The C interface: an item's answer as a number and seven words of values.
+-- The C interface: the words that a module needs, and an item's answer as a number and seven words of values.
 use Prim.Native.Nat.{ℕ, _-_}
 use mathlib.Core.List.{List, [], _∷_, _++_}
 use mathlib.Core.Bool.{Bool, true, false, cond}
 use lib.Dec.{ltb}
 use lib.ListN.{length, getD, replicate}
 use lib.Seq.{sets}
+use Rattle.frame.specs.Layout.{need, most}
 use Rattle.calls.specs.Performed.{itemNumbers, itemAfter}
 use Rattle.calls.specs.declared.items.Item.{Item}
+
+-- "A module has 1 to 12 channels": the words that so many need, 0 for any other number
+unfoldable pub hostWords : ℕ → ℕ
+hostWords k = cond (ltb k 1) 0 (cond (ltb most k) 0 (need k))
 
 -- the answer's number and values in eight words, zeros behind
 abbrev pub eight : Item → List ℕ → List ℕ

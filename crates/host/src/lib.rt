@@ -1,14 +1,38 @@
-// The C interface: one call item performed on lent memory.
+// The C interface: the words that a module needs, one call item performed on lent memory, and the label of a word.
+use frame::layout::MOST;
 ghost use mathlib.Core.Path.{_≡_};
 ghost use lib.ListN.{length};
+ghost use Rattle.word.specs.Word.{label};
 ghost use Rattle.calls.specs.Items.{decoded};
-ghost use Rattle.host.specs.Host.{hostNumber, hostValues, hostAfter};
+ghost use Rattle.host.specs.Host.{hostWords, hostNumber, hostValues, hostAfter};
 
 // The words that the values of an answer need.
 const VALUES: usize = 7;
 
 // Fewer words than that are lent for the values.
 const SHORT: u32 = 24;
+
+// The words of memory that a module of `count` channels needs; 0 where a module cannot have so many channels.
+#[no_mangle]
+pub extern "C" fn nqabelihu_words(count: u32) -> usize
+    ensures { λ r. ⌜ r ≡ hostWords count ⌝ }
+{
+    if count < 1 {
+        return 0;
+    }
+    if MOST < count {
+        return 0;
+    }
+    frame::layout::need(count)
+}
+
+// The label of a word, bits 1 to 8: written in octal it is the number that the documents list.
+#[no_mangle]
+pub extern "C" fn nqabelihu_label(word: u32) -> u32
+    ensures { λ r. ⌜ r ≡ label word ⌝ }
+{
+    word::label(word) as u32
+}
 
 // Performs the item `op channel a b` on a module's memory: the result is the answer's number, and `values` takes the answer's values, zeros
 // where it has fewer. With fewer than seven words lent for the values the result is 24 and nothing is changed.

@@ -1,0 +1,106 @@
+//! The kinds of calls that are timed: what sets them up, what comes before each timed round, and the calls of a round.
+
+use second::calls::Item;
+
+/// Calls of a timed round, at most a FIFO's 255 on one channel.
+pub const CALLS: u32 = 240;
+
+pub struct Kind {
+    pub name: &'static str,
+    /// Calls once after power-up.
+    pub set_up: Vec<Item>,
+    /// Calls before each round, not timed.
+    pub before: Vec<Item>,
+    /// The timed calls.
+    pub timed: Vec<Item>,
+    /// Words lent to the timed calls fewer than the module needs.
+    pub short_by: usize,
+}
+
+fn item(op: u32, channel: u32, a: u32, b: u32) -> Item {
+    Item { op, channel, a, b }
+}
+
+/// An ARINC 429 word with a label that changes from call to call.
+fn word(k: u32) -> u32 {
+    k.wrapping_mul(0x9E37_79B9) ^ 0x6000_0000
+}
+
+/// One call on every channel.
+fn each(channels: u32, op: u32, a: u32, b: u32) -> Vec<Item> {
+    (1..=channels).map(|channel| item(op, channel, a, b)).collect()
+}
+
+/// A round of one op on the channels in turn.
+fn round(channels: u32, op: u32, a: impl Fn(u32) -> u32) -> Vec<Item> {
+    (0..CALLS).map(|k| item(op, 1 + k % channels, a(k), 1)).collect()
+}
+
+pub fn kinds(channels: u32) -> Vec<Kind> {
+    let n = channels;
+    let receiver = each(n, 32, 1, 0);
+    let transmitter = each(n, 33, 1, 0);
+    // An initiated test clears both FIFOs.
+    let cleared = each(n, 145, 0, 0);
+    let kind = |name, set_up: &[&[Item]], before: Vec<Item>, timed: Vec<Item>| Kind {
+        name,
+        set_up: set_up.concat(),
+        before,
+        timed,
+        short_by: 0,
+    };
+    // A schedule that runs for ever: message, gap, message, fixed gap, jump to its start.
+    let schedule: Vec<Item> = [
+        each(n, 139, 0, 0x1000),
+        each(n, 139, 1, 0x2001),
+        each(n, 139, 2, 0x1002),
+        each(n, 139, 3, 0x3003),
+        each(n, 139, 4, 0x6000),
+        each(n, 141, 0, 0x6000_00D4),
+        each(n, 141, 1, 100),
+        each(n, 141, 2, 0x6000_00D5),
+        each(n, 141, 3, 40),
+        each(n, 39, 2, 0),
+        each(n, 135, 0, 0),
+    ]
+    .concat();
+    let small = [each(n, 40, 8, 0), each(n, 41, 6, 0)].concat();
+    let filled: Vec<Item> = (0..8).flat_map(|k| each(n, 128, word(k), 0)).collect();
+    let matched: Vec<Item> = (0..1024).step_by(2).flat_map(|k| each(n, 131, k, 1)).collect();
+    let mut kinds = vec![
+        kind("arrival, appended", &[&receiver], cleared.clone(), round(n, 128, word)),
+        kind("arrival, appended, stamps on", &[&receiver, &each(n, 36, 1, 0)], cleared.clone(), round(n, 128, word)),
+        kind("arrival, dropped by a bounded FIFO", &[&receiver, &small, &filled], vec![], round(n, 128, word)),
+        kind("arrival, over the oldest", &[&receiver, &small, &each(n, 38, 1, 0), &filled], vec![], round(n, 128, word)),
+        kind("arrival, match on", &[&receiver, &each(n, 35, 1, 0), &matched], cleared.clone(), round(n, 128, word)),
+        kind("arrival, ignored", &[], vec![], round(n, 128, word)),
+        kind("arrival, mailbox mode", &[&receiver, &each(n, 37, 1, 0)], cleared.clone(), round(n, 128, word)),
+        kind("receive FIFO read", &[&receiver], round(n, 128, word), round(n, 129, |_| 0)),
+        kind("receive FIFO read, empty", &[&receiver], vec![], round(n, 129, |_| 0)),
+        kind("mailbox read", &[&receiver, &each(n, 37, 1, 0)], vec![], round(n, 130, |k| word(k) % 1024)),
+        kind("transmit FIFO write", &[], cleared.clone(), round(n, 133, word)),
+        kind("step, immediate", &[&transmitter], round(n, 133, word), round(n, 138, |_| 0)),
+        kind("step, schedule", &[&transmitter, &schedule], vec![], round(n, 138, |_| 0)),
+        kind("trigger", &[&transmitter], vec![], round(n, 135, |_| 0)),
+        kind("setting write", &[], vec![], round(n, 41, |k| k % 256)),
+        kind("setting read", &[], vec![], round(n, 73, |_| 0)),
+        kind("message RAM write", &[], vec![], round(n, 141, |k| k % 256)),
+        kind("match write", &[], vec![], round(n, 131, |k| word(k) % 1024)),
+        kind("background sample", &[], vec![], round(n, 143, |k| k / n % 2)),
+        kind("status read", &[], vec![], round(n, 146, |_| 0)),
+        kind("latch clear", &[], vec![], round(n, 147, |_| 127)),
+        kind("pending read", &[], vec![], round(n, 152, |_| 0)),
+        kind("fate counts read", &[], vec![], round(n, 153, |_| 0)),
+        kind("stamp advance", &[], vec![], round(n, 3, |_| 50)),
+        kind("stamp read", &[], vec![], round(n, 5, |_| 0)),
+        kind("fault threshold write", &[], vec![], round(n, 8, |k| 1 + k % 9)),
+        kind("refused, wrong channel", &[], vec![], (0..CALLS).map(|_| item(146, n + 1, 0, 0)).collect()),
+        kind("refused, argument out of range", &[], vec![], round(n, 147, |_| 128)),
+        kind("no call", &[], vec![], round(n, 200, |_| 0)),
+        kind("power-up", &[], vec![], (0..4).map(|_| item(1, 0, n, 0)).collect()),
+    ];
+    let mut short = kind("refused, one word short", &[], vec![], round(n, 128, word));
+    short.short_by = 1;
+    kinds.insert(kinds.len() - 2, short);
+    kinds
+}

@@ -1,0 +1,632 @@
+/*
+ * The C interface at its limits: no memory, short memory, too few words for the values, every op number, damaged memory. Lent parts stand
+ * against pages that may not be touched, at their end and at their start, since the sanitizers see this program's own accesses and not
+ * those of the library. A failed check prints its line and exits with status 1.
+ *
+ * MODULE_RESET is 1 where op 2 is a call of the library.
+ */
+#define _DEFAULT_SOURCE
+#include <stdio.h>
+#include <stdlib.h>
+#include <string.h>
+#include <sys/mman.h>
+#include <unistd.h>
+
+#include "nqabelihu.h"
+
+#ifndef MODULE_RESET
+#define MODULE_RESET 1
+#endif
+
+static unsigned long checks;
+
+#define CHECK(test, ...)                         \
+    do {                                         \
+        checks++;                                \
+        if (!(test)) {                           \
+            printf("boundary.c:%d: ", __LINE__); \
+            printf(__VA_ARGS__);                 \
+            printf("\n");                        \
+            exit(1);                             \
+        }                                        \
+    } while (0)
+
+enum { COUNT = 3, BEYOND = 64, SENTINEL = 0x5AFE };
+
+/* ---- lent parts between pages that may not be touched ---- */
+
+enum { AT_END, AT_START };
+
+static uint32_t *between_guards(size_t words, int side)
+{
+    size_t page = (size_t)sysconf(_SC_PAGESIZE);
+    size_t body = (words * sizeof(uint32_t) + page - 1) / page * page;
+    unsigned char *map = (unsigned char *)mmap(NULL, page + body + page, PROT_NONE, MAP_PRIVATE | MAP_ANONYMOUS, -1, 0);
+    CHECK(map != MAP_FAILED, "no memory");
+    CHECK(body == 0 || mprotect(map + page, body, PROT_READ | PROT_WRITE) == 0, "no memory");
+    return (uint32_t *)(void *)(side == AT_START ? map + page : map + page + body - words * sizeof(uint32_t));
+}
+
+/* ---- random numbers ---- */
+
+static uint32_t seed = 1;
+
+static uint32_t below(uint32_t limit)
+{
+    seed ^= seed << 13;
+    seed ^= seed >> 17;
+    seed ^= seed << 5;
+    return (seed >> 3) % limit;
+}
+
+static uint32_t edge(void)
+{
+    static const uint32_t edges[] = {0, 1, 2, 3, 4, 5, 127, 128, 254, 255, 256, 1023, 1024, 65535, 65536, 1048575, 1048576, 0x7FFFFFFF, 0xFFFFFFFF};
+    return edges[below(sizeof edges / sizeof edges[0])];
+}
+
+/* ---- the table of docs/CALLS.md ---- */
+
+/* How many values an op answers beside the number; -1 for an op that is no call. */
+static int values_of(uint32_t op)
+{
+    if (op == 2)
+        return MODULE_RESET ? 0 : -1;
+    if (op == 0 || (9 < op && op < 32) || (43 < op && op < 64) || (75 < op && op < 128) || 156 < op)
+        return -1;
+    if (64 <= op && op <= 75)
+        return 1;
+    switch (op) {
+    case 129:
+    case 130:
+        return 3;
+    case 138:
+        return 4;
+    case 153:
+        return 7;
+    case 156:
+        return 2;
+    case 5:
+    case 7:
+    case 9:
+    case 128:
+    case 132:
+    case 140:
+    case 142:
+    case 146:
+    case 149:
+    case 151:
+    case 152:
+    case 154:
+    case 155:
+        return 1;
+    default:
+        return 0;
+    }
+}
+
+/* An item on lent memory, with exactly seven words for the values. */
+static uint32_t *values;
+
+static uint32_t item(uint32_t *memory, size_t words, uint32_t op, uint32_t channel, uint32_t a, uint32_t b)
+{
+    uint32_t number;
+    size_t at;
+    for (at = 0; at < NQABELIHU_VALUES; at++)
+        values[at] = 0xDEADBEEF;
+    number = nqabelihu_perform(memory, words, values, NQABELIHU_VALUES, op, channel, a, b);
+    /* Zeros behind the answer's values, and beside a refusal everywhere. */
+    for (at = number == 0 ? (size_t)(values_of(op) < 0 ? 0 : values_of(op)) : 0; at < NQABELIHU_VALUES; at++)
+        CHECK(values[at] == 0, "op %u answered %u with value %u in place %u", (unsigned)op, (unsigned)number, (unsigned)values[at], (unsigned)at);
+    return number;
+}
+
+/* ---- the tests ---- */
+
+static void sizes(void)
+{
+    uint32_t count;
+    for (count = 1; count <= NQABELIHU_MOST_CHANNELS; count++)
+        CHECK(nqabelihu_words(count) == NQABELIHU_WORDS(count), "words of %u channels", (unsigned)count);
+    CHECK(nqabelihu_words(0) == 0, "words of 0 channels");
+    CHECK(nqabelihu_words(13) == 0, "words of 13 channels");
+    CHECK(nqabelihu_words(0x80000001) == 0, "words of 2^31 + 1 channels");
+    CHECK(nqabelihu_words(0xFFFFFFFF) == 0, "words of 2^32 - 1 channels");
+}
+
+static void labels(void)
+{
+    uint32_t byte, bit, reversed;
+    for (byte = 0; byte < 256; byte++) {
+        reversed = 0;
+        for (bit = 0; bit < 8; bit++)
+            reversed |= (byte >> bit & 1) << (7 - bit);
+        CHECK(nqabelihu_label(byte) == reversed, "label of %02x", (unsigned)byte);
+        CHECK(nqabelihu_label(byte | 0xFFFFFF00) == reversed, "label of ffffff%02x", (unsigned)byte);
+    }
+    CHECK(nqabelihu_label(0xA1) == 0205, "label of 000000a1");
+}
+
+/* Memory below the module part, null memory among it: short, but for what power-up and no calls answer. */
+static void little_memory(void)
+{
+    uint32_t copy[NQABELIHU_MODULE_WORDS];
+    uint32_t op;
+    size_t words, at;
+    for (words = 0; words < NQABELIHU_MODULE_WORDS; words++) {
+        uint32_t *memory = words == 0 ? NULL : between_guards(words, AT_END);
+        for (at = 0; at < words; at++)
+            copy[at] = memory[at] = edge();
+        for (op = 0; op < 400; op++) {
+            uint32_t expected = values_of(op) < 0 ? NQABELIHU_NO_CALL : NQABELIHU_SHORT;
+            CHECK(item(memory, words, op, 1, 1, 1) == expected, "op %u on %u words", (unsigned)op, (unsigned)words);
+        }
+        CHECK(item(memory, words, 1, 0, 0, 0) == NQABELIHU_RANGE, "power-up of 0 channels on %u words", (unsigned)words);
+        CHECK(item(memory, words, 1, 0, 12, 0) == NQABELIHU_SHORT, "power-up of 12 channels on %u words", (unsigned)words);
+        CHECK(item(memory, words, 1, 0, 13, 0) == NQABELIHU_RANGE, "power-up of 13 channels on %u words", (unsigned)words);
+        CHECK(words == 0 || memcmp(memory, copy, words * sizeof *memory) == 0, "%u words were changed", (unsigned)words);
+    }
+    /* A dangling pointer with no words is not followed. */
+    CHECK(item(between_guards(0, AT_END), 0, 1, 0, 1, 0) == NQABELIHU_SHORT, "power-up on 0 words");
+}
+
+/* Memory of one word less than the need, and of exactly the need, at both sides of a guard. */
+static void exact_memory(uint32_t count, int side)
+{
+    size_t need = nqabelihu_words(count), at;
+    uint32_t *shorter = between_guards(need - 1, side);
+    uint32_t *exact = between_guards(need, side);
+    uint32_t *copy = (uint32_t *)malloc(need * sizeof *copy);
+    uint32_t op;
+    CHECK(copy != NULL, "no memory");
+
+    memset(shorter, 0xFF, (need - 1) * sizeof *shorter);
+    CHECK(item(shorter, need - 1, 1, 0, count, 0) == NQABELIHU_SHORT, "power-up of %u channels on one word less", (unsigned)count);
+    for (at = 0; at < need - 1; at++)
+        CHECK(shorter[at] == 0xFFFFFFFF, "word %u changed", (unsigned)at);
+
+    memset(exact, 0xFF, need * sizeof *exact);
+    CHECK(item(exact, need, 1, 0, count, 0) == NQABELIHU_DONE, "power-up of %u channels", (unsigned)count);
+    for (at = 0; at < need; at++)
+        CHECK(exact[at] != 0xFFFFFFFF, "word %u left by power-up", (unsigned)at);
+
+    /* A module whose last word is not lent. */
+    memcpy(copy, exact, need * sizeof *copy);
+    memcpy(shorter, exact, (need - 1) * sizeof *shorter);
+    for (op = 2; op < 200; op++) {
+        uint32_t expected = values_of(op) < 0 ? NQABELIHU_NO_CALL : NQABELIHU_SHORT;
+        CHECK(item(shorter, need - 1, op, 1, 1, 1) == expected, "op %u on one word less", (unsigned)op);
+    }
+    CHECK(memcmp(shorter, copy, (need - 1) * sizeof *copy) == 0, "memory of one word less was changed");
+
+    /* Every call on the first and the last channel, refused or done: the guards are not touched. */
+    for (op = 2; op < 200; op++) {
+        item(exact, need, op, 1, below(2), below(2));
+        item(exact, need, op, count, edge(), edge());
+    }
+    free(copy);
+}
+
+/* Fewer than seven words for the values: 24, nothing written, whatever the op and the memory. */
+static void few_values(void)
+{
+    size_t need = nqabelihu_words(1), places, at;
+    uint32_t *memory = between_guards(need, AT_END);
+    uint32_t *copy = (uint32_t *)malloc(need * sizeof *copy);
+    uint32_t op;
+    CHECK(copy != NULL, "no memory");
+    CHECK(item(memory, need, 1, 0, 1, 0) == NQABELIHU_DONE, "power-up");
+    CHECK(item(memory, need, 32 + NQABELIHU_RECEIVER, 1, 1, 0) == NQABELIHU_DONE, "receiver on");
+    memcpy(copy, memory, need * sizeof *copy);
+    for (places = 0; places < NQABELIHU_VALUES; places++) {
+        uint32_t *few = places == 0 ? NULL : between_guards(places, AT_END);
+        for (at = 0; at < places; at++)
+            few[at] = SENTINEL;
+        for (op = 0; op < 200; op++) {
+            CHECK(nqabelihu_perform(memory, need, few, places, op, 1, 1, 1) == NQABELIHU_FEW_VALUES, "op %u with %u words for the values",
+                  (unsigned)op, (unsigned)places);
+            CHECK(nqabelihu_perform(NULL, 0, few, places, op, 1, 1, 1) == NQABELIHU_FEW_VALUES, "op %u with %u words for the values, no memory",
+                  (unsigned)op, (unsigned)places);
+        }
+        for (at = 0; at < places; at++)
+            CHECK(few[at] == SENTINEL, "value %u of %u was written", (unsigned)at, (unsigned)places);
+    }
+    CHECK(memcmp(memory, copy, need * sizeof *copy) == 0, "memory was changed");
+
+    /* More than seven: the others stay. */
+    {
+        uint32_t *more = between_guards(NQABELIHU_VALUES + 3, AT_END);
+        for (at = 0; at < NQABELIHU_VALUES + 3; at++)
+            more[at] = SENTINEL;
+        CHECK(nqabelihu_perform(memory, need, more, NQABELIHU_VALUES + 3, 153, 1, 0, 0) == NQABELIHU_DONE, "counts");
+        for (at = 0; at < NQABELIHU_VALUES + 3; at++)
+            CHECK(more[at] == (uint32_t)(at < NQABELIHU_VALUES ? 0 : SENTINEL), "value %u of ten", (unsigned)at);
+    }
+    free(copy);
+}
+
+/* Every op number: a call of the table, or 42 with nothing changed. */
+static void every_op(void)
+{
+    size_t need = nqabelihu_words(COUNT);
+    uint32_t *memory = between_guards(need, AT_END);
+    uint32_t *copy = (uint32_t *)malloc(need * sizeof *copy);
+    uint32_t op, step;
+    CHECK(copy != NULL, "no memory");
+    CHECK(item(memory, need, 1, 0, COUNT, 0) == NQABELIHU_DONE, "power-up");
+    memcpy(copy, memory, need * sizeof *copy);
+    for (step = 0; step < 1024 + 32 + 100; step++) {
+        op = step < 1024 ? step : step < 1024 + 32 ? 0xFFFFFFFF >> (step - 1024) : 157 + below(0xFFFFFF00);
+        if (op != 1 && values_of(op) < 0) {
+            CHECK(item(memory, need, op, 1, 1, 1) == NQABELIHU_NO_CALL, "op %u is taken for a call", (unsigned)op);
+            CHECK(memcmp(memory, copy, need * sizeof *copy) == 0, "op %u, no call, changed the memory", (unsigned)op);
+        } else {
+            CHECK(item(memory, need, op, 1, 1, 1) < 8, "op %u is a call", (unsigned)op);
+            CHECK(item(memory, need, 1, 0, COUNT, 0) == NQABELIHU_DONE, "power-up");
+        }
+    }
+    free(copy);
+}
+
+/* Random calls on sound and damaged, whole and short memory: a refusal changes nothing, and words beyond the need are never touched. */
+static void random_calls(void)
+{
+    size_t need = nqabelihu_words(COUNT), whole = need + BEYOND, lent, at;
+    uint32_t *memory = between_guards(whole, AT_END);
+    uint32_t *before = (uint32_t *)malloc(whole * sizeof *before);
+    uint32_t refused = 0, accepted = 0;
+    int turn;
+    CHECK(before != NULL, "no memory");
+    for (at = 0; at < whole; at++)
+        memory[at] = SENTINEL;
+    CHECK(item(memory, whole, 1, 0, COUNT, 0) == NQABELIHU_DONE, "power-up");
+    for (turn = 0; turn < 30000; turn++) {
+        uint32_t op = below(4) == 0 ? below(170) : 128 + below(29);
+        uint32_t channel = below(10) == 0 ? edge() : 1 + below(COUNT);
+        uint32_t a = below(3) == 0 ? edge() : below(2), b = below(3) == 0 ? edge() : below(2), number, old = 0;
+        size_t damaged = whole;
+        if (op == 1)
+            a = COUNT;
+        if (below(8) == 0) {
+            /* a number with a range, in the module part or a block */
+            damaged = below(2) == 0 ? below(16) : 16 + 4666 * below(COUNT) + below(22);
+            old = memory[damaged];
+            memory[damaged] = edge();
+        }
+        lent = below(8) == 0 ? below((uint32_t)whole) : whole;
+        memcpy(before, memory, whole * sizeof *before);
+        number = item(memory, lent, op, channel, a, b);
+        if (number == NQABELIHU_DONE) {
+            accepted++;
+            CHECK(memcmp(memory + need, before + need, BEYOND * sizeof *before) == 0, "op %u touched words beyond the need", (unsigned)op);
+        } else {
+            refused++;
+            CHECK(memcmp(memory, before, whole * sizeof *before) == 0, "op %u refused with %u changed the memory", (unsigned)op, (unsigned)number);
+            CHECK(number < 8 ? values_of(op) >= 0 : number == NQABELIHU_NO_CALL && values_of(op) < 0, "op %u answered %u", (unsigned)op,
+                  (unsigned)number);
+        }
+        if (damaged < whole && op != 1)
+            memory[damaged] = old;
+        /* Damage may have let a call store what the repaired module has no room for: start again now and then. */
+        if (below(200) == 0 || (damaged < whole && number == NQABELIHU_DONE))
+            CHECK(item(memory, whole, 1, 0, COUNT, 0) == NQABELIHU_DONE, "power-up");
+    }
+    CHECK(accepted > 5000 && refused > 2000, "%u accepted, %u refused", (unsigned)accepted, (unsigned)refused);
+    free(before);
+}
+
+/* ---- the header's functions by name against the op numbers of docs/CALLS.md ---- */
+
+static nqabelihu_memory named;
+static uint32_t *twin;
+
+/* The same item on a twin of the memory gives the same number, results and words. */
+static void same(const char *name, uint32_t number, uint32_t op, uint32_t channel, uint32_t a, uint32_t b, int count, const uint32_t *results)
+{
+    int at;
+    uint32_t expected = item(twin, named.count, op, channel, a, b);
+    CHECK(number == expected, "%s answered %u and op %u %u", name, (unsigned)number, (unsigned)op, (unsigned)expected);
+    CHECK(count == values_of(op) || values_of(op) < 0, "%s has %d results", name, count);
+    for (at = 0; at < count; at++)
+        CHECK(results[at] == values[at], "%s, result %d", name, at);
+    CHECK(memcmp(named.words, twin, named.count * sizeof *twin) == 0, "%s leaves other words than op %u", name, (unsigned)op);
+}
+
+static void by_name(void)
+{
+    static const uint32_t sound[12] = {1, 1, 0, 1, 1, 1, 1, 2, 9, 7, 3, 99};
+    size_t need = nqabelihu_words(COUNT);
+    uint32_t r[NQABELIHU_VALUES] = {0}, setting, number;
+    nqabelihu_entry e;
+    nqabelihu_output o;
+    int turn;
+    named.words = (uint32_t *)calloc(need, sizeof(uint32_t));
+    named.count = need;
+    twin = (uint32_t *)calloc(need, sizeof(uint32_t));
+    CHECK(named.words != NULL && twin != NULL, "no memory");
+
+    same("power_up", nqabelihu_power_up(named, COUNT), 1, 0, COUNT, 0, 0, r);
+    for (setting = 0; setting <= 12; setting++) {
+        uint32_t value = setting < 12 ? sound[setting] : 1;
+        uint32_t write = setting < 12 ? 32 + setting : 0, read = setting < 12 ? 64 + setting : 0;
+        same("write_setting", nqabelihu_write_setting(named, 2, setting, value), write, 2, value, 0, 0, r);
+        same("read_setting", nqabelihu_read_setting(named, 2, setting, r), read, 2, 0, 0, 1, r);
+    }
+    same("write_setting", nqabelihu_write_setting(named, 1, NQABELIHU_RECEIVER, 1), 32, 1, 1, 0, 0, r);
+    same("write_setting", nqabelihu_write_setting(named, 1, NQABELIHU_STAMPS, 1), 36, 1, 1, 0, 0, r);
+    same("write_resolution", nqabelihu_write_resolution(named, 3), 6, 0, 3, 0, 0, r);
+    same("read_resolution", nqabelihu_read_resolution(named, r), 7, 0, 0, 0, 1, r);
+    same("write_threshold", nqabelihu_write_threshold(named, 1), 8, 0, 1, 0, 0, r);
+    same("read_threshold", nqabelihu_read_threshold(named, r), 9, 0, 0, 0, 1, r);
+    for (turn = 0; turn < 3; turn++) {
+        uint32_t word = 0x600000D4 + (uint32_t)turn;
+        same("advance_stamp", nqabelihu_advance_stamp(named, 50), 3, 0, 50, 0, 0, r);
+        same("read_stamp", nqabelihu_read_stamp(named, r), 5, 0, 0, 0, 1, r);
+        same("write_match", nqabelihu_write_match(named, 2, word % 1024, 1), 131, 2, word % 1024, 1, 0, r);
+        same("read_match", nqabelihu_read_match(named, 2, word % 1024, r), 132, 2, word % 1024, 0, 1, r);
+        same("arrive", nqabelihu_arrive(named, 1, word, r), 128, 1, word, 0, 1, r);
+        same("arrive", nqabelihu_arrive(named, 2, word, r), 128, 2, word, 0, 1, r);
+        number = nqabelihu_read_mailbox(named, 2, word % 1024, &e);
+        same("read_mailbox", number, 130, 2, word % 1024, 0, 3, (uint32_t[]){e.status, e.word, e.stamp});
+        same("write_transmit_fifo", nqabelihu_write_transmit_fifo(named, 1, word), 133, 1, word, 0, 0, r);
+        same("read_transmit_level", nqabelihu_read_transmit_level(named, 1, r), 155, 1, 0, 0, 1, r);
+        same("write_schedule", nqabelihu_write_schedule(named, 2, 0, NQABELIHU_COMMAND_MESSAGE + 5), 139, 2, 0, 0x1005, 0, r);
+        same("write_schedule", nqabelihu_write_schedule(named, 2, 1, NQABELIHU_COMMAND_GAP + 6), 139, 2, 1, 0x2006, 0, r);
+        same("read_schedule", nqabelihu_read_schedule(named, 2, 1, r), 140, 2, 1, 0, 1, r);
+        same("write_message", nqabelihu_write_message(named, 2, 5, word), 141, 2, 5, word, 0, r);
+        same("write_message", nqabelihu_write_message(named, 2, 6, 77), 141, 2, 6, 77, 0, r);
+        same("read_message", nqabelihu_read_message(named, 2, 5, r), 142, 2, 5, 0, 1, r);
+        same("write_async", nqabelihu_write_async(named, 2, word), 134, 2, word, 0, 0, r);
+        same("read_async", nqabelihu_read_async(named, 2, &r[0], &r[1]), 156, 2, 0, 0, 2, r);
+        same("write_setting", nqabelihu_write_setting(named, 1, NQABELIHU_TRANSMITTER, 1), 33, 1, 1, 0, 0, r);
+        same("trigger", nqabelihu_trigger(named, 2), 135, 2, 0, 0, 0, r);
+        number = nqabelihu_step(named, 2, &o);
+        same("step", number, 138, 2, 0, 0, 4, (uint32_t[]){o.form, o.x, o.y, o.z});
+        same("stop", nqabelihu_stop(named, 2), 137, 2, 0, 0, 0, r);
+        same("trigger", nqabelihu_trigger(named, 2), 135, 2, 0, 0, 0, r);
+        number = nqabelihu_step(named, 2, &o);
+        same("step", number, 138, 2, 0, 0, 4, (uint32_t[]){o.form, o.x, o.y, o.z});
+        same("pause", nqabelihu_pause(named, 2), 136, 2, 0, 0, 0, r);
+        same("trigger", nqabelihu_trigger(named, 2), 135, 2, 0, 0, 0, r);
+        number = nqabelihu_step(named, 2, &o);
+        same("step", number, 138, 2, 0, 0, 4, (uint32_t[]){o.form, o.x, o.y, o.z});
+        number = nqabelihu_step(named, 1, &o);
+        same("step", number, 138, 1, 0, 0, 4, (uint32_t[]){o.form, o.x, o.y, o.z});
+        same("sample", nqabelihu_sample(named, 1, 1), 143, 1, 1, 0, 0, r);
+        same("write_enable", nqabelihu_write_enable(named, 1, 64), 148, 1, 64, 0, 0, r);
+        same("read_enable", nqabelihu_read_enable(named, 1, r), 149, 1, 0, 0, 1, r);
+        same("read_pending", nqabelihu_read_pending(named, 1, r), 152, 1, 0, 0, 1, r);
+        same("write_level_mask", nqabelihu_write_level_mask(named, 1, 12), 150, 1, 12, 0, 0, r);
+        same("read_level_mask", nqabelihu_read_level_mask(named, 1, r), 151, 1, 0, 0, 1, r);
+        same("read_status", nqabelihu_read_status(named, 1, r), 146, 1, 0, 0, 1, r);
+        same("read_receive_level", nqabelihu_read_receive_level(named, 1, r), 154, 1, 0, 0, 1, r);
+    }
+    number = nqabelihu_read_receive_fifo(named, 1, &e);
+    same("read_receive_fifo", number, 129, 1, 0, 0, 3, (uint32_t[]){e.status, e.word, e.stamp});
+    CHECK(e.word == 0x600000D4 && e.stamp == 50, "the oldest entry");
+    same("clear_latch", nqabelihu_clear_latch(named, 1, 127), 147, 1, 127, 0, 0, r);
+    same("initiate_test", nqabelihu_initiate_test(named, 1, 1), 145, 1, 1, 0, 0, r);
+    same("reset_test", nqabelihu_reset_test(named, 1), 144, 1, 0, 0, 0, r);
+    same("zero_stamp", nqabelihu_zero_stamp(named), 4, 0, 0, 0, 0, r);
+    same("module_reset", nqabelihu_module_reset(named), 2, 0, 0, 0, 0, r);
+    same("read_status", nqabelihu_read_status(named, 4, r), 146, 4, 0, 0, 1, r);
+    free(named.words);
+    free(twin);
+}
+
+/* ---- what the header's constants mean ---- */
+
+static nqabelihu_memory fresh(uint32_t *words)
+{
+    nqabelihu_memory memory;
+    memory.words = words;
+    memory.count = NQABELIHU_WORDS(COUNT);
+    CHECK(nqabelihu_power_up(memory, COUNT) == NQABELIHU_DONE, "power-up");
+    return memory;
+}
+
+#define DO(call) CHECK((call) == NQABELIHU_DONE, #call)
+
+static uint32_t arrives(nqabelihu_memory memory, uint32_t channel, uint32_t word)
+{
+    uint32_t outcome;
+    DO(nqabelihu_arrive(memory, channel, word, &outcome));
+    return outcome;
+}
+
+static nqabelihu_output steps(nqabelihu_memory memory, uint32_t channel)
+{
+    nqabelihu_output output;
+    DO(nqabelihu_step(memory, channel, &output));
+    return output;
+}
+
+/* The latched conditions; they are then cleared. */
+static uint32_t latched(nqabelihu_memory memory, uint32_t channel)
+{
+    uint32_t status;
+    DO(nqabelihu_read_status(memory, channel, &status));
+    DO(nqabelihu_clear_latch(memory, channel, NQABELIHU_ALL_CONDITIONS));
+    return status;
+}
+
+static void answers(nqabelihu_memory m)
+{
+    nqabelihu_memory less = m;
+    nqabelihu_entry entry;
+    uint32_t at, old = m.words[2];
+    less.count--;
+    CHECK(nqabelihu_trigger(less, 1) == NQABELIHU_SHORT, "short");
+    m.words[2] = 4;
+    CHECK(nqabelihu_trigger(m, 1) == NQABELIHU_UNSOUND, "unsound");
+    m.words[2] = old;
+    CHECK(nqabelihu_trigger(m, COUNT + 1) == NQABELIHU_CHANNEL, "channel");
+    CHECK(nqabelihu_write_setting(m, 1, NQABELIHU_RATE, 3) == NQABELIHU_RANGE, "range");
+    CHECK(nqabelihu_write_match(m, 1, NQABELIHU_MAILBOXES, 1) == NQABELIHU_RANGE, "range");
+    DO(nqabelihu_write_match(m, 1, NQABELIHU_MAILBOXES - 1, 1));
+    CHECK(nqabelihu_write_message(m, 1, NQABELIHU_RAM_WORDS, 1) == NQABELIHU_RANGE, "range");
+    DO(nqabelihu_write_message(m, 1, NQABELIHU_RAM_WORDS - 1, 1));
+    CHECK(nqabelihu_trigger(m, 1) == NQABELIHU_MODE, "mode");
+    for (at = 0; at < NQABELIHU_FIFO_ENTRIES; at++)
+        DO(nqabelihu_write_transmit_fifo(m, 1, at));
+    CHECK(nqabelihu_write_transmit_fifo(m, 1, at) == NQABELIHU_FULL, "full");
+    CHECK(nqabelihu_read_receive_fifo(m, 1, &entry) == NQABELIHU_EMPTY, "empty");
+    CHECK(NQABELIHU_SETTINGS == 12 && nqabelihu_read_setting(m, 1, NQABELIHU_SETTINGS, &at) == NQABELIHU_NO_CALL, "no call");
+}
+
+static void receiving(nqabelihu_memory m)
+{
+    nqabelihu_entry entry;
+    CHECK(arrives(m, 1, 1) == NQABELIHU_IGNORED, "ignored");
+    DO(nqabelihu_write_setting(m, 1, NQABELIHU_RECEIVER, 1));
+    DO(nqabelihu_write_setting(m, 1, NQABELIHU_MATCH, 1));
+    CHECK(arrives(m, 1, 1) == NQABELIHU_FILTERED, "filtered");
+    DO(nqabelihu_write_setting(m, 1, NQABELIHU_MATCH, 0));
+    DO(nqabelihu_write_setting(m, 1, NQABELIHU_RECEIVE_SIZE, 3));
+    DO(nqabelihu_write_setting(m, 1, NQABELIHU_ALMOST_FULL, 2));
+    CHECK(arrives(m, 1, 1) == NQABELIHU_APPENDED && latched(m, 1) == 0, "appended");
+    CHECK(arrives(m, 1, 2) == NQABELIHU_APPENDED && latched(m, 1) == NQABELIHU_IS_ALMOST_FULL, "almost full");
+    CHECK(arrives(m, 1, 3) == NQABELIHU_APPENDED, "appended");
+    CHECK(latched(m, 1) == NQABELIHU_IS_FULL + NQABELIHU_IS_PARITY_ERROR, "full, parity error");
+    CHECK(arrives(m, 1, 4) == NQABELIHU_DROPPED, "dropped");
+    DO(nqabelihu_write_setting(m, 1, NQABELIHU_FIFO_KIND, NQABELIHU_CIRCULAR));
+    CHECK(arrives(m, 1, 4) == NQABELIHU_OVERWRITING, "overwriting");
+    DO(nqabelihu_write_setting(m, 1, NQABELIHU_FIFO_KIND, NQABELIHU_BOUNDED));
+    CHECK(arrives(m, 1, 4) == NQABELIHU_DROPPED, "dropped");
+    DO(nqabelihu_read_receive_fifo(m, 1, &entry));
+    CHECK(entry.status == 0 && entry.word == 2, "oldest entry");
+    DO(nqabelihu_read_receive_fifo(m, 1, &entry));
+    CHECK(entry.status == NQABELIHU_PARITY_WRONG && entry.word == 3 && entry.stamp == 0, "entry with a parity error");
+    /* Parity off, stamps on, mailbox mode. */
+    DO(nqabelihu_advance_stamp(m, 7));
+    DO(nqabelihu_write_setting(m, 1, NQABELIHU_PARITY, 0));
+    DO(nqabelihu_write_setting(m, 1, NQABELIHU_STAMPS, 1));
+    DO(nqabelihu_write_setting(m, 1, NQABELIHU_RECEIVE_MODE, NQABELIHU_MAILBOX));
+    CHECK(arrives(m, 1, 3) == NQABELIHU_APPENDED, "appended");
+    DO(nqabelihu_read_mailbox(m, 1, 3, &entry));
+    CHECK(entry.status == NQABELIHU_NEW && entry.word == 3 && entry.stamp == 7, "new mailbox");
+    DO(nqabelihu_write_setting(m, 1, NQABELIHU_RECEIVE_MODE, NQABELIHU_FIFO));
+    CHECK(nqabelihu_read_receive_fifo(m, 1, &entry) == NQABELIHU_EMPTY, "cleared by the change of mode");
+}
+
+static void is_output(nqabelihu_output o, uint32_t form, uint32_t x, uint32_t y, uint32_t z, int line)
+{
+    CHECK(o.form == form && o.x == x && o.y == y && o.z == z, "output of line %d: %u %u %u %u", line, (unsigned)o.form, (unsigned)o.x,
+          (unsigned)o.y, (unsigned)o.z);
+}
+
+#define STEP(form, x, y, z) is_output(steps(m, 2), form, x, y, z, __LINE__)
+
+static void transmitting(nqabelihu_memory m)
+{
+    static const uint32_t commands[] = {
+        NQABELIHU_COMMAND_MESSAGE + 1, NQABELIHU_COMMAND_FIXED_GAP + 2, NQABELIHU_COMMAND_GAP + 2, NQABELIHU_COMMAND_GAP + 2,
+        NQABELIHU_COMMAND_PAUSE,       NQABELIHU_COMMAND_INTERRUPT,     NQABELIHU_COMMAND_JUMP + 8, 0x7000,
+        NQABELIHU_COMMAND_STOP};
+    uint32_t at;
+    DO(nqabelihu_write_setting(m, 2, NQABELIHU_ALMOST_EMPTY, 1));
+    DO(nqabelihu_write_setting(m, 2, NQABELIHU_RATE, 9));
+    DO(nqabelihu_write_transmit_fifo(m, 2, 1));
+    DO(nqabelihu_write_transmit_fifo(m, 2, 2));
+    DO(nqabelihu_write_transmit_fifo(m, 2, 3));
+    STEP(NQABELIHU_QUIET, 0, 0, 0);
+    DO(nqabelihu_write_setting(m, 2, NQABELIHU_TRANSMITTER, 1));
+    latched(m, 2);
+    STEP(NQABELIHU_FIFO_WORD, 1, 9, 0);
+    CHECK(latched(m, 2) == 0, "two words left");
+    DO(nqabelihu_write_setting(m, 2, NQABELIHU_TRANSMIT_MODE, NQABELIHU_TRIGGERED));
+    STEP(NQABELIHU_QUIET, 0, 0, 0);
+    DO(nqabelihu_trigger(m, 2));
+    STEP(NQABELIHU_FIFO_WORD, 2, 9, 0);
+    CHECK(latched(m, 2) == NQABELIHU_IS_ALMOST_EMPTY, "almost empty");
+    DO(nqabelihu_stop(m, 2));
+    DO(nqabelihu_write_setting(m, 2, NQABELIHU_TRANSMIT_MODE, NQABELIHU_IMMEDIATE));
+    STEP(NQABELIHU_FIFO_WORD, 0x80000003, 9, 0);
+    CHECK(latched(m, 2) == NQABELIHU_IS_EMPTY, "empty");
+
+    for (at = 0; at < 9; at++)
+        DO(nqabelihu_write_schedule(m, 2, at, commands[at]));
+    DO(nqabelihu_write_message(m, 2, 1, 0x100));
+    DO(nqabelihu_write_message(m, 2, 2, 50));
+    DO(nqabelihu_write_setting(m, 2, NQABELIHU_TRANSMIT_MODE, NQABELIHU_SCHEDULED));
+    DO(nqabelihu_write_async(m, 2, 0x200));
+    DO(nqabelihu_trigger(m, 2));
+    STEP(NQABELIHU_MESSAGE, 0x100, 0, 0);
+    STEP(NQABELIHU_NULL_TIME, 50, 0, 0);
+    STEP(NQABELIHU_ASYNC, 4, 0x200, 14);
+    STEP(NQABELIHU_NULL_TIME, 50, 0, 0);
+    STEP(NQABELIHU_QUIET, 0, 0, 0);
+    STEP(NQABELIHU_QUIET, 0, 0, 0);
+    CHECK(latched(m, 2) == 0, "paused before the interrupt");
+    DO(nqabelihu_trigger(m, 2));
+    STEP(NQABELIHU_QUIET, 0, 0, 0);
+    CHECK(latched(m, 2) == NQABELIHU_IS_INTERRUPT, "interrupt");
+    STEP(NQABELIHU_QUIET, 0, 0, 0); /* the jump, over the reserved command */
+    STEP(NQABELIHU_QUIET, 0, 0, 0); /* the stop */
+    STEP(NQABELIHU_QUIET, 0, 0, 0);
+    DO(nqabelihu_write_schedule(m, 2, 0, 0x7000));
+    DO(nqabelihu_write_schedule(m, 2, 1, NQABELIHU_COMMAND_JUMP + 7));
+    DO(nqabelihu_write_schedule(m, 2, 0, NQABELIHU_COMMAND_JUMP + 1));
+    DO(nqabelihu_trigger(m, 2));
+    STEP(NQABELIHU_QUIET, 0, 0, 0);
+    STEP(NQABELIHU_QUIET, 0, 0, 0);
+    STEP(NQABELIHU_RESERVED, 7, 0, 0);
+}
+
+/* Every count has a number of its own. */
+static void fates(nqabelihu_memory m)
+{
+    nqabelihu_counts c;
+    nqabelihu_entry entry;
+    uint32_t at;
+    DO(nqabelihu_write_setting(m, 3, NQABELIHU_RECEIVER, 1));
+    DO(nqabelihu_write_setting(m, 3, NQABELIHU_TRANSMITTER, 1));
+    DO(nqabelihu_write_setting(m, 3, NQABELIHU_FIFO_KIND, NQABELIHU_CIRCULAR));
+    DO(nqabelihu_write_setting(m, 3, NQABELIHU_RECEIVE_SIZE, 4));
+    for (at = 0; at < 9; at++)
+        arrives(m, 3, at);
+    DO(nqabelihu_read_receive_fifo(m, 3, &entry));
+    CHECK(entry.word == 5, "the oldest that is left");
+    for (at = 0; at < 6; at++)
+        DO(nqabelihu_write_transmit_fifo(m, 3, at));
+    steps(m, 3);
+    steps(m, 3);
+    latched(m, 3);
+    DO(nqabelihu_initiate_test(m, 3, 0));
+    DO(nqabelihu_read_counts(m, 3, &c));
+    CHECK(c.receive_accepted == 9 && c.receive_read == 1 && c.receive_cleared == 3 && c.receive_overwritten == 5, "fates of the receive FIFO");
+    CHECK(c.transmit_accepted == 6 && c.transmit_sent == 2 && c.transmit_cleared == 4, "fates of the transmit FIFO");
+    latched(m, 3);
+    DO(nqabelihu_write_threshold(m, 1));
+    DO(nqabelihu_sample(m, 3, 1));
+    CHECK(latched(m, 3) == NQABELIHU_IS_FAULT, "fault");
+}
+
+static void meanings(void)
+{
+    uint32_t *words = between_guards(NQABELIHU_WORDS(COUNT), AT_END);
+    answers(fresh(words));
+    receiving(fresh(words));
+    transmitting(fresh(words));
+    fates(fresh(words));
+}
+
+int main(void)
+{
+    values = between_guards(NQABELIHU_VALUES, AT_END);
+    sizes();
+    labels();
+    little_memory();
+    exact_memory(1, AT_END);
+    exact_memory(1, AT_START);
+    exact_memory(COUNT, AT_END);
+    exact_memory(COUNT, AT_START);
+    exact_memory(NQABELIHU_MOST_CHANNELS, AT_END);
+    few_values();
+    every_op();
+    random_calls();
+    by_name();
+    meanings();
+    printf("%lu checks of the C interface\n", checks);
+    return 0;
+}

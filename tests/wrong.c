@@ -1,0 +1,88 @@
+/*
+ * Wrong libraries, to see that boundary.c finds them out: linked with --wrap, each passes calls on to the proved library and does one
+ * thing wrong. WRONG picks which.
+ */
+#include <stddef.h>
+#include <stdint.h>
+
+uint32_t __real_nqabelihu_perform(uint32_t *memory, size_t words, uint32_t *values, size_t places, uint32_t op, uint32_t channel, uint32_t a,
+                                  uint32_t b);
+size_t __real_nqabelihu_words(uint32_t count);
+uint32_t __real_nqabelihu_label(uint32_t word);
+uint32_t __wrap_nqabelihu_perform(uint32_t *memory, size_t words, uint32_t *values, size_t places, uint32_t op, uint32_t channel, uint32_t a,
+                                  uint32_t b);
+size_t __wrap_nqabelihu_words(uint32_t count);
+uint32_t __wrap_nqabelihu_label(uint32_t word);
+
+size_t __wrap_nqabelihu_words(uint32_t count)
+{
+#if WRONG == 1 /* thirteen channels have words */
+    if (count == 13)
+        return 16 + 13 * 4666;
+#endif
+    return __real_nqabelihu_words(count);
+}
+
+uint32_t __wrap_nqabelihu_label(uint32_t word)
+{
+#if WRONG == 2 /* the label is not reversed */
+    return word % 256;
+#else
+    return __real_nqabelihu_label(word);
+#endif
+}
+
+uint32_t __wrap_nqabelihu_perform(uint32_t *memory, size_t words, uint32_t *values, size_t places, uint32_t op, uint32_t channel, uint32_t a,
+                                  uint32_t b)
+{
+    uint32_t number;
+#if WRONG == 3 /* six words for the values suffice */
+    if (places == 6) {
+        uint32_t seven[7];
+        size_t at;
+        number = __real_nqabelihu_perform(memory, words, seven, 7, op, channel, a, b);
+        for (at = 0; at < 6; at++)
+            values[at] = seven[at];
+        return number;
+    }
+#elif WRONG == 4 /* memory is read one word behind its end */
+    volatile uint32_t read = words == 0 ? 0 : memory[words];
+    (void)read;
+#elif WRONG == 5 /* memory is read one word before its start */
+    volatile uint32_t read = words == 0 ? 0 : memory[-1];
+    (void)read;
+#elif WRONG == 6 /* null memory is followed */
+    volatile uint32_t read = memory[0];
+    (void)read;
+#endif
+    number = __real_nqabelihu_perform(memory, words, values, places, op, channel, a, b);
+#if WRONG == 7 /* a refusal changes the stamp */
+    if (number != 0 && words > 1)
+        memory[1]++;
+#elif WRONG == 8 /* an op that is no call is done */
+    if (number == 42)
+        return 0;
+#elif WRONG == 9 /* a refusal leaves a value */
+    if (number == 7)
+        values[0] = 1;
+#elif WRONG == 10 /* a word beyond the need is written */
+    if (number == 0 && op == 128 && memory[0] == 3 && words > 16 + 3 * 4666)
+        memory[16 + 3 * 4666] = a;
+#elif WRONG == 11 /* an eighth value is written */
+    if (places > 7 && number == 0)
+        values[7] = 0;
+#elif WRONG == 12 /* memory of one word less than the need is taken */
+    if (number == 1 && op == 1 && words + 1 == __real_nqabelihu_words(a))
+        return 0;
+#elif WRONG == 13 /* a call of the table is not known */
+    if (op == 156)
+        return 42;
+#elif WRONG == 14 /* power-up leaves the last word */
+    if (number == 0 && op == 1)
+        memory[words - 1] = 0xFFFFFFFF;
+#elif WRONG == 15 /* a value is missing */
+    if (number == 0 && op == 153)
+        values[0] = 0;
+#endif
+    return number;
+}
