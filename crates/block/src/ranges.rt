@@ -2,6 +2,7 @@
 use crate::layout::RANGED;
 use crate::layout::RECEIVE_LEVEL;
 use crate::layout::RECEIVE_SIZE;
+use crate::layout::SETTINGS;
 ghost use mathlib.Core.Path.{_≡_};
 ghost use Prim.Native.Nat.{_<_};
 ghost use lib.ListN.{length};
@@ -69,12 +70,20 @@ pub fn in_range(at: usize, value: u32) -> bool
     false
 }
 
-// Whether every stored number of a block is in its range.
+// Whether every stored number of a block is in its range. The settings and the other words have a loop each: the compiler unrolls loops of
+// that length, and the table's values become constants.
 pub fn is_sound(block: &[u32]) -> bool
     requires { ⌜ Whole (now block) ⌝ }
     ensures { λ r. ⌜ r ≡ sound (now (block .entry)) ⌝ }
 {
     let mut at = 0;
+    while at < SETTINGS {
+        if in_range(at, block[at]) {
+            at += 1;
+        } else {
+            return false;
+        }
+    }
     while at < RANGED {
         if in_range(at, block[at]) {
             at += 1;
