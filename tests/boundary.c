@@ -2,8 +2,6 @@
  * The C interface at its limits: no memory, short memory, too few words for the values, every op number, damaged memory. Lent parts stand
  * against pages that may not be touched, at their end and at their start, since the sanitizers see this program's own accesses and not
  * those of the library. A failed check prints its line and exits with status 1.
- *
- * MODULE_RESET is 1 where op 2 is a call of the library.
  */
 #define _DEFAULT_SOURCE
 #include <stdio.h>
@@ -13,10 +11,6 @@
 #include <unistd.h>
 
 #include "nqabelihu.h"
-
-#ifndef MODULE_RESET
-#define MODULE_RESET 1
-#endif
 
 static unsigned long checks;
 
@@ -70,8 +64,6 @@ static uint32_t edge(void)
 /* How many values an op answers beside the number; -1 for an op that is no call. */
 static int values_of(uint32_t op)
 {
-    if (op == 2)
-        return MODULE_RESET ? 0 : -1;
     if (op == 0 || (9 < op && op < 32) || (43 < op && op < 64) || (75 < op && op < 128) || 156 < op)
         return -1;
     if (64 <= op && op <= 75)

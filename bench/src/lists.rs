@@ -94,6 +94,7 @@ pub fn kinds(channels: u32) -> Vec<Kind> {
         kind("stamp advance", &[], vec![], round(n, 3, |_| 50)),
         kind("stamp read", &[], vec![], round(n, 5, |_| 0)),
         kind("fault threshold write", &[], vec![], round(n, 8, |k| 1 + k % 9)),
+        kind("module reset", &[], vec![], round(n, 2, |_| 0)),
         kind("refused, wrong channel", &[], vec![], (0..CALLS).map(|_| item(146, n + 1, 0, 0)).collect()),
         kind("refused, argument out of range", &[], vec![], round(n, 147, |_| 128)),
         kind("no call", &[], vec![], round(n, 200, |_| 0)),

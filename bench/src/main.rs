@@ -14,29 +14,7 @@ use std::time::Instant;
 use lists::{kinds, Kind};
 use second::calls::Item;
 use second::layout::need;
-use second::words;
-
-extern "C" {
-    /// A slice passes as a pointer and a length.
-    fn nqabelihu_perform(
-        mem: *mut u32,
-        words: usize,
-        values: *mut u32,
-        places: usize,
-        op: u32,
-        channel: u32,
-        a: u32,
-        b: u32,
-    ) -> u32;
-}
-
-#[inline(always)]
-fn proved(mem: &mut [u32], values: &mut [u32; 7], item: &Item) -> u32 {
-    // Both parts are whole slices of this program that do not overlap.
-    unsafe {
-        nqabelihu_perform(mem.as_mut_ptr(), mem.len(), values.as_mut_ptr(), 7, item.op, item.channel, item.a, item.b)
-    }
-}
+use second::{proved, words};
 
 /// Runs a list on the proved library; gives a sum of the answers.
 #[inline(never)]
@@ -44,7 +22,7 @@ fn run_proved(mem: &mut [u32], items: &[Item]) -> u32 {
     let mut values = [0; 7];
     let mut sum = 0u32;
     for item in items {
-        sum = sum.wrapping_add(proved(mem, &mut values, item)).wrapping_add(values[0]);
+        sum = sum.wrapping_add(proved::perform(mem, &mut values, *item)).wrapping_add(values[0]);
     }
     sum
 }
@@ -64,7 +42,7 @@ fn run_second(mem: &mut [u32], items: &[Item]) -> u32 {
 fn compare(first: &mut [u32], second: &mut [u32], lent: usize, items: &[Item], name: &str) {
     for item in items {
         let mut values = [0xAAAA_AAAA; 7];
-        let number = proved(&mut first[..lent], &mut values, item);
+        let number = proved::perform(&mut first[..lent], &mut values, *item);
         let answer = words::perform(&mut second[..lent], item.op, item.channel, item.a, item.b);
         assert_eq!(number, answer[0], "{name}: {item}");
         assert_eq!(values[..answer.len() - 1], answer[1..], "{name}: {item}");

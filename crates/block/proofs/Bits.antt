@@ -1,7 +1,7 @@
 -- A word with one bit written: it is a word, the bit is as written, and the other bits stay.
 -- Assumes nothing.
-use mathlib.Core.Path.{_≡_, refl, sym, ap, _∙_, subst}
-use Prim.Native.Nat.{ℕ, zero, suc, _+_, _-_, _*_, _/_, _%_, _^_, _≤_, _<_}
+use mathlib.Core.Path.{_≡_, sym, ap, _∙_, subst}
+use Prim.Native.Nat.{ℕ, suc, _+_, _-_, _*_, _/_, _%_, _^_, _≤_, _<_}
 use native.Mathlib.Nat.{pow-suc, mod-lt, add-mul-div-right, mul-assoc, mul-one, mul-le-mul-left, add-comm}
 use native.Mathlib.Omega.{arith}
 use lib.Arith.{digits-lt}

@@ -1,18 +1,18 @@
 -- What stores and the changes of a FIFO do to what it holds, once for both FIFOs.
 -- Assumes nothing.
-use mathlib.Core.Path.{_≡_, refl, sym, ap, ap₂, _∙_}
+use mathlib.Core.Path.{_≡_, refl, sym, ap, _∙_}
 use mathlib.Core.Logic.{_≢_}
-use mathlib.Core.List.{List, [], _∷_, _++_}
-use Prim.Native.Nat.{ℕ, suc, _+_, _-_, _*_, _%_, _≤_, _<_}
+use mathlib.Core.List.{List}
+use Prim.Native.Nat.{ℕ, _+_, _-_, _≤_, _<_}
 use native.Mathlib.Omega.{arith}
-use lib.ListN.{length, getD, set, drop, length-set}
+use lib.ListN.{length, set, drop, length-set}
 use lib.Seq.{sets, length-sets, getD-set-same, getD-set-other}
-use Rattle.ring.specs.Ring.{Ring, held, slot, end, appended, oldest, next, slots}
+use Rattle.ring.specs.Ring.{held, slot, end, appended, next, slots}
 use Rattle.ring.proofs.Words.{sets-other}
-use Rattle.ring.proofs.Laws.{inside, none-held, length-held, append, take-oldest, overwrite, frame-set, frame-ring}
+use Rattle.ring.proofs.Laws.{none-held, length-held, append, take-oldest, overwrite, elsewhere-set}
 use Rattle.block.specs.Layout.{word, Whole, blockWords}
 use Rattle.block.specs.Clearing.{counted, cleared}
-use Rattle.block.specs.Fifos.{Places, receivePlaces, transmitPlaces, oldestEntry, entryAppended, entryOverwriting, entryTaken, Fifo, fifo, accepts, gives, clears, overwrites}
+use Rattle.block.specs.Fifos.{Places, receivePlaces, transmitPlaces, entryAppended, entryOverwriting, entryTaken, Fifo, fifo, accepts, gives, clears, overwrites}
 
 -- a FIFO by its parts
 same : {h h′ : List (List ℕ)} {a a′ t t′ c c′ : ℕ} → h ≡ h′ → a ≡ a′ → t ≡ t′ → c ≡ c′
@@ -58,7 +58,7 @@ transmit-proper = omega arith
 pub store-apart : (p : Places) (b : List ℕ) (i v : ℕ) → 0 < p .ring .slots → Apart p i → fifo p (set b i v) ≡ fifo p b
 store-apart p b i v h a =
     same
-    (rw (getD-set-other b i (p .position) v 0 (a .position), getD-set-other b i (p .level) v 0 (a .level)) (frame-set (p .ring) b i v _ _ h (a .ring)))
+    (rw (getD-set-other b i (p .position) v 0 (a .position), getD-set-other b i (p .level) v 0 (a .level)) (elsewhere-set (p .ring) b i v _ _ h (a .ring)))
     (getD-set-other b i (p .accepted) v 0 (a .accepted)) (getD-set-other b i (p .taken) v 0 (a .taken))
     (getD-set-other b i (p .cleared) v 0 (a .cleared))
 
@@ -97,9 +97,9 @@ module _ (p : Places) (q : Proper p) (b : List ℕ) (w : Whole b) where
       getD-set-other b₂ (p .taken) (p .level) t 0 (q .level-taken) ∙ getD-set-other b₁ (p .position) (p .level) s 0 (λ e. q .position-level (sym e))
       ∙ getD-set-same b (p .level) l 0 (omega (arith, w, q)) in
       let left : (k n : ℕ) → held (p .ring) (set b₂ (p .taken) t) k n ≡ held (p .ring) b k n = λ k n.
-      frame-set (p .ring) b₂ (p .taken) t k n (q .some) (λ x y. omega (arith, q))
-      ∙ frame-set (p .ring) b₁ (p .position) s k n (q .some) (λ x y. omega (arith, q))
-      ∙ frame-set (p .ring) b (p .level) l k n (q .some) (λ x y. omega (arith, q)) in
+      elsewhere-set (p .ring) b₂ (p .taken) t k n (q .some) (λ x y. omega (arith, q))
+      ∙ elsewhere-set (p .ring) b₁ (p .position) s k n (q .some) (λ x y. omega (arith, q))
+      ∙ elsewhere-set (p .ring) b (p .level) l k n (q .some) (λ x y. omega (arith, q)) in
       same
       (rw (at, level) (left s l) ∙ ap (drop 1) (sym (take-oldest (p .ring) b (word b (p .position)) (word b (p .level)) h)))
       (getD-set-other b₂ (p .taken) (p .accepted) t 0 (q .accepted-taken) ∙ getD-set-other b₁ (p .position) (p .accepted) s 0 (λ e. q .position-accepted (sym e))
@@ -125,7 +125,7 @@ module _ (p : Places) (q : Proper p) (b : List ℕ) (w : Whole b) where
       let level : word (set b₁ (p .accepted) a) (p .level) ≡ l =
       getD-set-other b₁ (p .accepted) (p .level) a 0 (q .level-accepted) ∙ getD-set-same m (p .level) l 0 fits₁ in
       let left : (k n : ℕ) → held (p .ring) (set b₁ (p .accepted) a) k n ≡ held (p .ring) m k n = λ k n.
-      frame-set (p .ring) b₁ (p .accepted) a k n (q .some) (λ x y. omega (arith, q)) ∙ frame-set (p .ring) m (p .level) l k n (q .some) (λ x y. omega (arith, q)) in
+      elsewhere-set (p .ring) b₁ (p .accepted) a k n (q .some) (λ x y. omega (arith, q)) ∙ elsewhere-set (p .ring) m (p .level) l k n (q .some) (λ x y. omega (arith, q)) in
       same
       (rw (at, level) (left (word b (p .position)) l) ∙ append (p .ring) b m e (word b (p .position)) (word b (p .level)) refl long (omega (arith, w, q)) h)
       (getD-set-same b₁ (p .accepted) a 0 fits₂)
@@ -151,7 +151,7 @@ module _ (p : Places) (q : Proper p) (b : List ℕ) (w : Whole b) where
       getD-set-other b₁ (p .accepted) (p .level) a 0 (q .level-accepted) ∙ getD-set-other m (p .position) (p .level) s 0 (λ x. q .position-level (sym x))
       ∙ before-ring _ e (p .level) (q .level) in
       let left : (k n : ℕ) → held (p .ring) (set b₁ (p .accepted) a) k n ≡ held (p .ring) m k n = λ k n.
-      frame-set (p .ring) b₁ (p .accepted) a k n (q .some) (λ x y. omega (arith, q)) ∙ frame-set (p .ring) m (p .position) s k n (q .some) (λ x y. omega (arith, q)) in
+      elsewhere-set (p .ring) b₁ (p .accepted) a k n (q .some) (λ x y. omega (arith, q)) ∙ elsewhere-set (p .ring) m (p .position) s k n (q .some) (λ x y. omega (arith, q)) in
       same
       (rw (at, level) (left s (word b (p .level))) ∙ overwrite (p .ring) b m e (word b (p .position)) (word b (p .level)) refl long (omega (arith, w, q)) h full)
       (getD-set-same b₁ (p .accepted) a 0 fits₂)
@@ -159,15 +159,3 @@ module _ (p : Places) (q : Proper p) (b : List ℕ) (w : Whole b) where
       ∙ before-ring _ e (p .taken) (q .taken))
       (getD-set-other b₁ (p .accepted) (p .cleared) a 0 (λ x. q .accepted-cleared (sym x)) ∙ getD-set-other m (p .position) (p .cleared) s 0 (λ x. q .position-cleared (sym x))
       ∙ before-ring _ e (p .cleared) (q .cleared))
-
--- an entry stored in the ring of another FIFO leaves this one
-pub ring-apart : (p o : Places) (b : List ℕ) (k : ℕ) (e : List ℕ) → length e ≡ o .ring .width → 0 < o .ring .slots → 0 < p .ring .slots
-    → ((i : ℕ) → o .ring .at ≤ i → i < end (o .ring) → Apart p i) → fifo p (sets b (slot (o .ring) k) e) ≡ fifo p b
-ring-apart p o b k e long h g apart =
-    same
-    (rw (other (p .position) (λ j a. a .position), other (p .level) (λ j a. a .level))
-    (frame-ring (p .ring) (o .ring) b (sets b (slot (o .ring) k) e) e k _ _ refl long h g (λ i l u. apart i l u .ring)))
-    (other (p .accepted) (λ j a. a .accepted)) (other (p .taken) (λ j a. a .taken)) (other (p .cleared) (λ j a. a .cleared))
-  where
-    other : (i : ℕ) → ((j : ℕ) → Apart p j → i ≢ j) → word (sets b (slot (o .ring) k) e) i ≡ word b i
-    other i f = sets-other b (slot (o .ring) k) e i (λ l u. f i (apart i (omega arith) (omega (arith, inside (o .ring) k h))) refl)

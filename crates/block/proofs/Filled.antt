@@ -1,11 +1,11 @@
 -- The factory block.
 -- Assumes nothing.
-use mathlib.Core.Path.{_≡_, refl, sym, ap, _∙_}
-use mathlib.Core.List.{List, [], _∷_, _++_}
+use mathlib.Core.Path.{_≡_, sym, ap, _∙_}
+use mathlib.Core.List.{List, _++_}
 use Prim.Native.Nat.{ℕ, _+_, _-_, _≤_}
 use native.Mathlib.Omega.{arith}
-use lib.ListN.{length, replicate, drop, take, length-replicate, replicate-append-replicate}
-use lib.Seq.{sets, sets-eq, drop-at}
+use lib.ListN.{length, replicate, drop, length-replicate, replicate-append-replicate}
+use lib.Seq.{sets-eq, drop-at}
 use Rattle.block.specs.Layout.{settings, Whole, blockWords}
 use Rattle.block.specs.Factory.{factorySettings, factoryOf, settingsToFactory}
 

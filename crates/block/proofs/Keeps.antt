@@ -3,22 +3,20 @@
 use mathlib.Core.Path.{_≡_, refl, ap, _∙_, subst}
 use mathlib.Core.Bool.{Bool, true, false, cond}
 use mathlib.Core.List.{List, _++_}
-use Prim.Native.Nat.{ℕ, _+_, _-_, _%_, _≤_, _<_, zero-le}
+use Prim.Native.Nat.{ℕ, _+_, _-_, _≤_, _<_, zero-le}
 use native.Mathlib.Decide.{decLt, ℕ-discrete}
 use native.Mathlib.Omega.{arith}
 use borrow.Author.Tests.{eqb-true, eqb-false, ltb-false}
-use lib.Dec.{T, eqb, ltb}
-use lib.ListN.{length, getD, set, drop, length-set, List·getD-append}
-use lib.Seq.{getD-set-same, getD-set-other, getD-append-add, getD-drop, sets-eq, length-sets}
-use Rattle.word.specs.Gap.{least, greatest}
-use Rattle.block.specs.Layout.{word, receiver, transmitter, receiveMode, transmitMode, receiveSize, receiveLevel, transmitLevel, receiveCleared, transmitCleared, state, address, asyncMark, latch, enable, levelMask, settings, ranged, Whole}
+use lib.Dec.{eqb, ltb}
+use lib.ListN.{length, getD, set, drop, List·getD-append}
+use lib.Seq.{getD-append-add, getD-drop, sets-eq, length-sets}
+use Rattle.block.specs.Layout.{word, receiver, transmitter, receiveMode, transmitMode, receiveSize, receiveLevel, transmitLevel, receiveCleared, transmitCleared, state, address, asyncMark, settings, ranged}
 use Rattle.block.specs.Ranges.{leasts, greatests, inRange, Usable}
-use Rattle.block.specs.Clearing.{counted, receiveFifoCleared, transmitFifoCleared, stopped, forgotten}
+use Rattle.block.specs.Clearing.{receiveFifoCleared, transmitFifoCleared, stopped, forgotten}
 use Rattle.block.specs.Settings.{settingRefusal, receiveModeWritten, transmitModeWritten, transmitterWritten, written}
 use Rattle.block.specs.Factory.{factorySettings, settingsToFactory}
-use Rattle.word.proofs.Computed.{at}
-use Rattle.block.proofs.Words.{words}
-use Rattle.block.proofs.Sound.{in-range, word-in, usable-words, usable-set, usable-level, usable-size}
+use Rattle.word.proofs.Computed.{passes}
+use Rattle.block.proofs.Sound.{word-in, usable-words, usable-set, usable-level, usable-size}
 
 -- ---- each change of a block
 
@@ -117,14 +115,10 @@ module _ {b : List ℕ} (u : Usable b) (s v : ℕ) (h : s < settings) (a : Setta
 
 -- ---- factory settings
 
-holds : (t : Bool) → T t → t ≡ true
-holds true h = refl
-holds false h = absurd h
-
 -- the factory settings are in their ranges
 factory-in : (i : ℕ) → i < settings → inRange i (getD factorySettings i 0) ≡ true
 unfolding leasts greatests
-factory-in i h = holds (inRange i (getD factorySettings i 0)) (at (λ j. inRange j (getD factorySettings j 0)) settings tt i h)
+factory-in i h = passes (λ j. inRange j (getD factorySettings j 0)) settings tt i h
 
 -- a block with factory settings, in two parts
 pub factory-parts : (b : List ℕ) → settings ≤ length b → settingsToFactory b ≡ factorySettings ++ drop settings b

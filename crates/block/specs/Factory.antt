@@ -1,9 +1,9 @@
 -- Factory values (paper 01, "Channel settings").
 use Prim.Native.Nat.{ℕ, _-_}
 use mathlib.Core.List.{List, [], _∷_, _++_}
-use lib.ListN.{replicate, length}
+use lib.ListN.{replicate}
 use lib.Seq.{sets}
-use Rattle.block.specs.Layout.{settings, receiver, blockWords}
+use Rattle.block.specs.Layout.{settings, receiver}
 
 -- "Factory: receiver, transmitter, match and stamps off, parity on, FIFO mode, bounded, immediate"; size 255, thresholds 128 and 32, rate 4
 abbrev pub factorySettings : List ℕ

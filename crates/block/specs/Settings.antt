@@ -1,10 +1,10 @@
 -- The twelve settings and the house rules on writing them (paper 01, "Channel settings").
 use Prim.Native.Nat.{ℕ}
 use mathlib.Core.List.{List}
-use mathlib.Core.Bool.{Bool, true, false, cond}
+use mathlib.Core.Bool.{cond}
 use lib.Dec.{eqb, ltb}
 use lib.ListN.{set}
-use Rattle.block.specs.Layout.{word, transmitter, receiveMode, transmitMode, receiveSize, receiveLevel, settings}
+use Rattle.block.specs.Layout.{word, transmitter, receiveMode, transmitMode, receiveSize, receiveLevel}
 use Rattle.block.specs.Ranges.{inRange}
 use Rattle.block.specs.Clearing.{receiveFifoCleared, forgotten}
 

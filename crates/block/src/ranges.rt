@@ -5,7 +5,6 @@ use crate::layout::RECEIVE_SIZE;
 use crate::layout::SETTINGS;
 ghost use mathlib.Core.Path.{_≡_};
 ghost use Prim.Native.Nat.{_<_};
-ghost use lib.ListN.{length};
 ghost use Rattle.block.specs.Layout.{Whole, ranged};
 ghost use Rattle.block.specs.Ranges.{inRange, sound};
 

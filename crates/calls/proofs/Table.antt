@@ -15,7 +15,6 @@ use Rattle.channel_calls.specs.declared.calls.ChannelCall.the-variants.{Setting
 use Rattle.wide.specs.declared.calls.WideCall.the-variants.{AdvanceStamp, ZeroStamp, ReadStamp, WriteResolution, ReadResolution, WriteThreshold, ReadThreshold}
 use Rattle.module.specs.declared.calls.Call.the-variants.{PowerUp, Reset, Wide, On}
 use Rattle.calls.specs.declared.items.Item.the-variants.{NoCall, Asked}
-use Rattle.calls.specs.declared.items.Item.{Item}
 use Rattle.calls.specs.Items.{wideOf, switchOf, settingOf, settingItem, receiveOf, matchOf, transmitOf, ramOf, testOf, statusOf, readOf, channelOf, decoded}
 
 -- ops 1 to 9

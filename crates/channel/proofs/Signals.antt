@@ -1,17 +1,13 @@
 -- A call signals at most one condition.
 -- Assumes nothing.
-use Prim.Native.Nat.{ℕ, _≤_, _*_, zero-le}
+use Prim.Native.Nat.{ℕ, _≤_, zero-le}
 use mathlib.Core.Bool.{Bool, true, false, cond}
 use mathlib.Core.List.{List}
 use native.Mathlib.Omega.{arith}
 use lib.Dec.{eqb}
-use Rattle.block.specs.Layout.{word, parity, receiveMode, transmitter, transmitMode}
-use Rattle.status.specs.Status.{parityErrorSignal, interruptSignal}
-use Rattle.receive.specs.Arrival.{arrival}
-use Rattle.receive.specs.Arrived.{errorSignal, signalled, arrivalSignal}
-use Rattle.receive.specs.declared.Arrival.{Arrival}
-use Rattle.receive.specs.declared.Arrival.the-variants.{Ignored, Filtered, Appended, Dropped, Overwriting}
-use Rattle.receive.proofs.Bounds.{mark-le}
+use Rattle.block.specs.Layout.{word, parity, transmitter, transmitMode}
+use Rattle.status.specs.Status.{interruptSignal}
+use Rattle.receive.proofs.Laws.{arrive-signal}
 use Rattle.schedule.proofs.Laws.{step-signal}
 use Rattle.transmit.specs.Step.{place, command, message, scheduledOutcome, scheduledSignal, stepSignal}
 use Rattle.channel.specs.Groups.{receiveSignal, transmitSignal}
@@ -23,23 +19,8 @@ use Rattle.channel_calls.specs.declared.calls.TransmitCall.the-variants.{WriteF
 use Rattle.channel_calls.specs.declared.calls.ChannelCall.{ChannelCall}
 use Rattle.channel_calls.specs.declared.calls.ChannelCall.the-variants.{Settings, Memories, Status, Tests, Reads, Receive, Transmit}
 
-error-le : (w : ℕ) (b : List ℕ) → errorSignal w b ≤ interruptSignal
-error-le w b = omega (arith, mark-le (word b parity) w)
-
-signalled-le : (a : Arrival) (w : ℕ) (b : List ℕ) → signalled a w b ≤ interruptSignal
-unfolding signalled
-signalled-le Ignored w b = zero-le
-signalled-le Filtered w b = zero-le
-signalled-le Appended w b = error-le w b
-signalled-le Dropped w b = go (eqb (word b receiveMode) 0)
-  where
-    go : (t : Bool) → cond t 0 (errorSignal w b) ≤ interruptSignal
-    go true = zero-le
-    go false = error-le w b
-signalled-le Overwriting w b = error-le w b
-
 receive-le : (k : ReceiveCall) (b : List ℕ) → receiveSignal k b ≤ interruptSignal
-receive-le (Arrive w) b = signalled-le (arrival w b) w b
+receive-le (Arrive w) b = omega (arith, arrive-signal w b)
 receive-le ReadFifo b = zero-le
 receive-le (ReadMailbox i) b = zero-le
 

@@ -1,7 +1,7 @@
 -- What each accepted call on a channel answers and leaves, group by group, before the rule runs.
 use Prim.Native.Nat.{ℕ}
 use mathlib.Core.List.{List}
-use mathlib.Core.Bool.{Bool, true, false, cond}
+use mathlib.Core.Bool.{cond}
 use lib.Dec.{eqb}
 use lib.ListN.{getD, set}
 use Rattle.block.specs.Layout.{word, enable, levelMask, receiveLevel, transmitLevel, asyncMark, asyncWord, receiveAccepted, receiveRead, receiveCleared, receiveOverwritten, transmitAccepted, transmitSent, transmitCleared, messageRam, scheduleRam}
@@ -17,7 +17,7 @@ use Rattle.receive.specs.Reading.{readAnswer, readAfter, mailboxAnswer, mailbox
 use Rattle.transmit.specs.Writes.{fifoWritten, asyncWritten}
 use Rattle.transmit.specs.States.{afterTrigger, afterPause}
 use Rattle.transmit.specs.Step.{stepOutput, stepSignal, stepAfter}
-use Rattle.channel_calls.specs.Answers.{place}
+use Rattle.channel_calls.specs.Answers.{settingNumber}
 use Rattle.channel_calls.specs.declared.calls.SettingCall.{SettingCall}
 use Rattle.channel_calls.specs.declared.calls.SettingCall.the-variants.{WriteSetting, ReadSetting}
 use Rattle.channel_calls.specs.declared.calls.MemoryCall.{MemoryCall}
@@ -39,10 +39,10 @@ use Rattle.channel_calls.specs.declared.calls.Answer.the-variants.{Done, Value,
 
 abbrev pub settingAnswer : SettingCall → List ℕ → Answer
 settingAnswer (WriteSetting s v) b = Done
-settingAnswer (ReadSetting s) b = Value (word b (place s))
+settingAnswer (ReadSetting s) b = Value (word b (settingNumber s))
 
 abbrev pub settingAfter : SettingCall → List ℕ → List ℕ
-settingAfter (WriteSetting s v) b = written (place s) v b
+settingAfter (WriteSetting s v) b = written (settingNumber s) v b
 settingAfter (ReadSetting s) b = b
 
 -- ---- match set, schedule RAM and message RAM

@@ -3,7 +3,6 @@ use channel_calls::calls::Answer;
 use channel_calls::calls::Did;
 use channel_calls::calls::ReceiveCall;
 ghost use mathlib.Core.Path.{_≡_};
-ghost use Prim.Native.Nat.{_≤_};
 ghost use Rattle.block.specs.Ranges.{Usable};
 ghost use Rattle.channel_calls.specs.Refusals.{receiveCallRefusal};
 ghost use Rattle.channel.specs.Groups.{receiveAnswer, receiveAfter, receiveSignal};

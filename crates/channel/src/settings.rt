@@ -1,7 +1,7 @@
 // Accepted calls on the settings.
 use channel_calls::calls::Answer;
 use channel_calls::calls::SettingCall;
-use channel_calls::refusals::place;
+use channel_calls::refusals::setting_number;
 ghost use mathlib.Core.Path.{_≡_};
 ghost use Rattle.block.specs.Layout.{Whole};
 ghost use Rattle.channel.specs.Groups.{settingAnswer, settingAfter};
@@ -12,11 +12,11 @@ pub fn on_setting(block: &mut [u32], call: SettingCall) -> Answer
 {
     match call {
         SettingCall::WriteSetting(setting, value) => {
-            block::settings::write(block, place(setting), value);
+            block::settings::write(block, setting_number(setting), value);
             Answer::Done
         }
         SettingCall::ReadSetting(setting) => {
-            let at = place(setting);
+            let at = setting_number(setting);
             Answer::Value(block[at])
         }
     }

@@ -13,8 +13,6 @@ use Rattle.channel_calls.specs.declared.calls.MemoryCall.{MemoryCall}
 use Rattle.channel_calls.specs.declared.calls.MemoryCall.the-variants.{WriteMatch, ReadMatch, WriteSchedule, ReadSchedule, WriteMessage, ReadMessage}
 use Rattle.channel_calls.specs.declared.calls.StatusCall.{StatusCall}
 use Rattle.channel_calls.specs.declared.calls.StatusCall.the-variants.{ReadStatus, ClearLatch, WriteEnable, ReadEnable, WriteLevelMask, ReadLevelMask, ReadPending}
-use Rattle.channel_calls.specs.declared.calls.TestCall.{TestCall}
-use Rattle.channel_calls.specs.declared.calls.TestCall.the-variants.{Sample, ResetTest, InitiateTest}
 use Rattle.channel_calls.specs.declared.calls.ReadCall.{ReadCall}
 use Rattle.channel_calls.specs.declared.calls.ReadCall.the-variants.{ReadCounts, ReadReceiveLevel, ReadTransmitLevel, ReadAsync}
 use Rattle.channel_calls.specs.declared.calls.ReceiveCall.{ReceiveCall}
@@ -27,19 +25,19 @@ use Rattle.channel_calls.specs.declared.calls.Answer.{Answer}
 use Rattle.channel_calls.specs.declared.calls.Answer.the-variants.{Done, Refused, Value, Waiting, Fates, Arrived, Entry, Stepped}
 
 -- a setting's number is its offset in the block
-abbrev pub place : Setting → ℕ
-place Receiver = receiver
-place Transmitter = transmitter
-place Parity = parity
-place Match = matching
-place Stamps = stamps
-place ReceiveMode = receiveMode
-place FifoKind = fifoKind
-place TransmitMode = transmitMode
-place ReceiveSize = receiveSize
-place AlmostFull = almostFull
-place AlmostEmpty = almostEmpty
-place Rate = rate
+abbrev pub settingNumber : Setting → ℕ
+settingNumber Receiver = receiver
+settingNumber Transmitter = transmitter
+settingNumber Parity = parity
+settingNumber Match = matching
+settingNumber Stamps = stamps
+settingNumber ReceiveMode = receiveMode
+settingNumber FifoKind = fifoKind
+settingNumber TransmitMode = transmitMode
+settingNumber ReceiveSize = receiveSize
+settingNumber AlmostFull = almostFull
+settingNumber AlmostEmpty = almostEmpty
+settingNumber Rate = rate
 
 -- how many values a call answers beside the number
 abbrev pub settingValues : SettingCall → ℕ

@@ -1,11 +1,11 @@
 -- When a call on a sound channel is refused, and by which number (paper 01, "Memory and answer numbers", rows 4 to 7).
 use Prim.Native.Nat.{ℕ}
 use mathlib.Core.List.{List}
-use mathlib.Core.Bool.{Bool, true, false, cond}
+use mathlib.Core.Bool.{cond}
 use lib.Dec.{eqb, ltb}
 use Rattle.block.specs.Layout.{word, receiveLevel, transmitLevel, transmitMode, transmitter, asyncMark}
 use Rattle.block.specs.Settings.{settingRefusal}
-use Rattle.channel_calls.specs.Answers.{place}
+use Rattle.channel_calls.specs.Answers.{settingNumber}
 use Rattle.channel_calls.specs.declared.calls.SettingCall.{SettingCall}
 use Rattle.channel_calls.specs.declared.calls.SettingCall.the-variants.{WriteSetting, ReadSetting}
 use Rattle.channel_calls.specs.declared.calls.MemoryCall.{MemoryCall}
@@ -34,7 +34,7 @@ first a b = cond (eqb a 0) b a
 
 -- "an argument outside its range"; "a size below the present level is refused with 5"
 abbrev pub settingCallRefusal : SettingCall → List ℕ → ℕ
-settingCallRefusal (WriteSetting s v) b = settingRefusal (place s) v b
+settingCallRefusal (WriteSetting s v) b = settingRefusal (settingNumber s) v b
 settingCallRefusal (ReadSetting s) b = 0
 
 -- "a RAM address 0 to 255, a match index 0 to 1023"; a mark is 0 or 1

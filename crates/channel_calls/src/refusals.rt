@@ -11,7 +11,7 @@ ghost use mathlib.Core.Path.{_≡_};
 ghost use Prim.Native.Nat.{_<_};
 ghost use Rattle.block.specs.Layout.{Whole, settings};
 ghost use Rattle.block.specs.Ranges.{Usable};
-ghost use Rattle.channel_calls.specs.Answers.{place};
+ghost use Rattle.channel_calls.specs.Answers.{settingNumber};
 ghost use Rattle.channel_calls.specs.Refusals.{above, below, first, settingCallRefusal, memoryCallRefusal, statusCallRefusal, testCallRefusal, receiveCallRefusal, transmitCallRefusal, channelRefusal};
 
 // The number where `x` is above the limit, else 0.
@@ -45,8 +45,8 @@ fn first(a: u32, b: u32) -> u32
 }
 
 // A setting's number.
-pub fn place(setting: Setting) -> usize
-    ensures { λ r. ⌜ (r ≡ place setting) × (r < settings) ⌝ }
+pub fn setting_number(setting: Setting) -> usize
+    ensures { λ r. ⌜ (r ≡ settingNumber setting) × (r < settings) ⌝ }
 {
     match setting {
         Setting::Receiver => block::layout::RECEIVER,
@@ -71,7 +71,7 @@ fn setting_refusal(block: &[u32], call: SettingCall) -> u32
     match call {
         SettingCall::WriteSetting(setting, value) => block::settings::write_refusal(
             block,
-            place(setting),
+            setting_number(setting),
             value,
         ),
         SettingCall::ReadSetting(_) => 0,

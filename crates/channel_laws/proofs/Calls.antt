@@ -24,7 +24,7 @@ use Rattle.receive.proofs.Laws.{Leaves as ReceiveLeaves, entry-by-settings, arr
 use Rattle.transmit.proofs.Laws.{Leaves as TransmitLeaves, write-keeps as fifo-write-keeps, write-accepts, async-keeps, async-fifo, trigger-keeps, trigger-fifo, pause-keeps, pause-fifo, step-keeps, step-fifo}
 use Rattle.schedule.specs.Output.{isFifoWord}
 use Rattle.transmit.specs.Step.{stepOutput}
-use Rattle.channel_calls.specs.Answers.{place}
+use Rattle.channel_calls.specs.Answers.{settingNumber}
 use Rattle.channel_calls.specs.Refusals.{settingCallRefusal, statusCallRefusal, receiveCallRefusal, transmitCallRefusal, channelRefusal}
 use Rattle.channel.specs.Groups.{settingAfter, memoryAfter, statusAfter, testAfter, receiveAnswer, receiveAfter, transmitAnswer, transmitAfter}
 use Rattle.channel.specs.Channel.{blockAfter, blockAnswer}
@@ -58,26 +58,26 @@ ruled-holds {c} k before holds =
 
 -- ---- settings
 
-pub place-in : (s : Setting) → place s < settings
-place-in Receiver = omega arith
-place-in Transmitter = omega arith
-place-in Parity = omega arith
-place-in Match = omega arith
-place-in Stamps = omega arith
-place-in ReceiveMode = omega arith
-place-in FifoKind = omega arith
-place-in TransmitMode = omega arith
-place-in ReceiveSize = omega arith
-place-in AlmostFull = omega arith
-place-in AlmostEmpty = omega arith
-place-in Rate = omega arith
+pub setting-in : (s : Setting) → settingNumber s < settings
+setting-in Receiver = omega arith
+setting-in Transmitter = omega arith
+setting-in Parity = omega arith
+setting-in Match = omega arith
+setting-in Stamps = omega arith
+setting-in ReceiveMode = omega arith
+setting-in FifoKind = omega arith
+setting-in TransmitMode = omega arith
+setting-in ReceiveSize = omega arith
+setting-in AlmostFull = omega arith
+setting-in AlmostEmpty = omega arith
+setting-in Rate = omega arith
 
 setting-left : (stamp : ℕ) (k : SettingCall) (a : Answer) {b : List ℕ} → Usable b → settingCallRefusal k b ≡ 0
     → Holds (settingAfter k b) (keptAfter counted stamp (Settings k) a (keptOf b))
 setting-left stamp (WriteSetting s v) a {b} u e =
     record {
-      usable = write-keeps u (place s) v (place-in s) (settable (place s) v b e);
-      is = write-kept b v (u .whole) (place s) (place-in s);
+      usable = write-keeps u (settingNumber s) v (setting-in s) (settable (settingNumber s) v b e);
+      is = write-kept b v (u .whole) (settingNumber s) (setting-in s);
     }
 setting-left stamp (ReadSetting s) a u e = here u
 

@@ -13,7 +13,7 @@ use Rattle.block.specs.Layout.{word, settings, receiveMode, transmitMode, trans
 use Rattle.block.specs.Clearing.{counted, receiveFifoCleared, transmitFifoCleared, stopped, forgotten}
 use Rattle.block.specs.Settings.{receiveModeWritten, transmitModeWritten, transmitterWritten, written}
 use Rattle.status.specs.Tests.{fifosCleared}
-use Rattle.block.specs.Fifos.{receivePlaces, transmitPlaces, fifo, clears, Change, Stays, Clears}
+use Rattle.block.specs.Fifos.{receivePlaces, transmitPlaces, Stays, Clears}
 use Rattle.block.proofs.Words.{words}
 use Rattle.block.proofs.Fifos.{receive-proper, transmit-proper, store-apart, clear-law}
 use Rattle.channel_laws.specs.Kept.{Kept, keptOf, settingChange, keptBy}

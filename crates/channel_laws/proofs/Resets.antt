@@ -1,13 +1,12 @@
 -- What a module reset leaves of a block, and what is kept of a block at first.
 -- Assumes nothing.
 use mathlib.Core.Path.{_≡_, refl, ap, _∙_}
-use mathlib.Core.Bool.{Bool, true, false}
+use mathlib.Core.Bool.{true}
 use mathlib.Core.List.{List, [], _∷_, _++_}
 use Prim.Native.Nat.{ℕ, zero, suc, _-_, _≤_, _<_, zero-le}
 use native.Mathlib.Omega.{arith}
-use lib.Dec.{T}
 use lib.ListN.{getD, take, replicate, length-append, length-replicate, List·getD-eq-default}
-use Rattle.word.proofs.Computed.{at}
+use Rattle.word.proofs.Computed.{passes}
 use Rattle.ring.proofs.Laws.{none-held}
 use Rattle.block.specs.Layout.{word, settings, receiveLevel, receiveSize, receiveOverwritten, latch, enable, levelMask, ranged, blockWords, Whole}
 use Rattle.block.specs.Ranges.{leasts, greatests, inRange, Usable}
@@ -63,16 +62,12 @@ first-word n i = zeros-behind factorySettings (n - settings) i
 first-zero : (n i : ℕ) → settings ≤ i → word (factoryOf n) i ≡ 0
 first-zero n i h = first-word n i ∙ List·getD-eq-default factorySettings 0 h
 
-holds : (t : Bool) → T t → t ≡ true
-holds true h = refl
-holds false h = absurd h
-
 -- each word is in its range
 first-in : (n i : ℕ) → i < ranged → inRange i (word (factoryOf n) i) ≡ true
 unfolding leasts greatests
 first-in n i h =
     rw (first-word n i)
-    (holds (inRange i (getD factorySettings i 0)) (at (λ j. inRange j (getD factorySettings j 0)) ranged tt i h))
+    (passes (λ j. inRange j (getD factorySettings j 0)) ranged tt i h)
 
 -- a FIFO whose numbers are no settings
 first-fifo : (p : Places) (n : ℕ) → settings ≤ p .level → settings ≤ p .accepted → settings ≤ p .taken → settings ≤ p .cleared

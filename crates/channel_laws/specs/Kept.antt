@@ -13,7 +13,7 @@ use Rattle.receive.specs.Entries.{entryOf}
 use Rattle.receive.specs.Fates.{arrivalChange}
 use Rattle.receive.specs.declared.Arrival.{Arrival}
 use Rattle.receive.specs.declared.Arrival.the-variants.{Ignored}
-use Rattle.channel_calls.specs.Answers.{place}
+use Rattle.channel_calls.specs.Answers.{settingNumber}
 use Rattle.channel_calls.specs.declared.calls.SettingCall.the-variants.{WriteSetting, ReadSetting}
 use Rattle.channel_calls.specs.declared.calls.TestCall.the-variants.{Sample, ResetTest, InitiateTest}
 use Rattle.channel_calls.specs.declared.calls.ReceiveCall.the-variants.{Arrive, ReadFifo, ReadMailbox}
@@ -70,7 +70,7 @@ givesWord (Stepped o) = isFifoWord o
 
 -- the settings: one is written
 abbrev pub settingsAfter : ChannelCall → List ℕ → List ℕ
-settingsAfter (Settings (WriteSetting s v)) l = set l (place s) v
+settingsAfter (Settings (WriteSetting s v)) l = set l (settingNumber s) v
 settingsAfter (Settings (ReadSetting s)) l = l
 settingsAfter (Memories k) l = l
 settingsAfter (Status k) l = l
@@ -87,7 +87,7 @@ settingChange s v l = cond (eqb s receiveMode) (cond (eqb (word l receiveMode) v
 -- the oldest is overwritten first, then the same. FIFO read: the oldest is taken out"; "initiated test: .. what they clear counted";
 -- "Any other call .. nothing"
 abbrev pub receiveChange : ℕ → ChannelCall → Answer → List ℕ → Change
-receiveChange stamp (Settings (WriteSetting s v)) a l = settingChange (place s) v l
+receiveChange stamp (Settings (WriteSetting s v)) a l = settingChange (settingNumber s) v l
 receiveChange stamp (Settings (ReadSetting s)) a l = Stays
 receiveChange stamp (Memories k) a l = Stays
 receiveChange stamp (Status k) a l = Stays

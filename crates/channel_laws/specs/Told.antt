@@ -23,7 +23,7 @@ pub record Oldest (f : Fifo) (e : List ℕ) : Type 0 where
   pub some : 0 < length (f .held)
   pub first : getD (f .held) 0 [] ≡ e
 
--- "FIFO read: the oldest is taken out, and is the answer's entry."
+-- "FIFO read: the oldest is taken out, and is the answer's entry."; "of a stored status the two low bits count"
 pub record Read (f : Fifo) (a : Answer) : Type 0 where
   pub entry : List ℕ
   pub oldest : Oldest f entry

@@ -5,16 +5,17 @@ use mathlib.Core.Path.{_≡_, refl, sym, ap, _∙_, subst}
 use mathlib.Core.List.{List, [], _∷_, _++_, map}
 use native.Mathlib.Omega.{arith}
 use lib.ListN.{getD}
-use Rattle.block.specs.Fifos.{Fifo, Change, Stays, Adds, Overwrites, Takes, Clears, Begins, changed, overwrittenAfter}
+use Rattle.block.specs.Fifos.{Fifo, Change, Stays, Adds, Overwrites, Takes, Clears, Begins, changed}
 use Rattle.channel_calls.specs.declared.calls.Answer.{Answer}
 use Rattle.channel_laws.specs.Kept.{Kept, keptFirst}
 use Rattle.module.specs.declared.calls.Call.{Call}
 use Rattle.fates.specs.History.{History, start, historyStep, history}
 use Rattle.fates.specs.Tells.{CallTold, AllTold}
-use Rattle.fates.specs.Ledger.{Ledger, emptyLedger, ledgerAfter, Side, Receiving, Transmitting, fifoOf, overwrittenOf, change, ledgerFrom, ledger}
+use Rattle.fates.specs.Ledger.{Ledger, emptyLedger, ledgerAfter, Side, Receiving, Transmitting, fifoOf, overwrittenOf, change, ledgerFrom, ledger, changeAt}
 use Rattle.fates.specs.GivenOut.{outAfter, outFrom, givenOut, aside}
 use Rattle.fates.specs.Accounts.{Accounts, NeverEmpty}
 use Rattle.fates.proofs.Ledger.{map-append, takenAfter, takenOf, accounts-after, taken-after}
+use Rattle.fates.proofs.Places.{Placed, none-placed, placed-after, Matches, matches}
 use Rattle.fates.proofs.Effects.{AllReadable, readable-after, Effect, effect}
 
 -- a FIFO's ledger l, what the answers gave out of it, s, and what the history keeps of its channel, h
@@ -86,7 +87,7 @@ module _ (side : Side) (ch : ℕ) where
   from : (at : ℕ) (es : List (Call × Answer)) (h : History) (l : Ledger) (s : List (List ℕ)) → AllTold es h → Balance side l s (h .kept ch)
       → Balance side (ledgerFrom side ch at es h l) (outFrom side ch es s) (history es h .kept ch)
   from at [] h l s t b = b
-  from at (e ∷ es) h l s t b = from (suc at) es _ _ _ (t .1) (step-balance side ch at (e .0) (e .1) h l s (t .0) b)
+  from at (e ∷ es) h l s t b = from _ es _ _ _ (t .1) (step-balance side ch at (e .0) (e .1) h l s (t .0) b)
 
   -- "The oldest is never asked for with none held."
   none-asked : (at : ℕ) (es : List (Call × Answer)) (h : History) (l : Ledger) (s : List (List ℕ)) → AllTold es h → Balance side l s (h .kept ch)
@@ -97,8 +98,20 @@ module _ (side : Side) (ch : ℕ) where
     none-asked (suc at) es _ _ _ (t .1) (step-balance side ch at (e .0) (e .1) h l s (t .0) b),
   )
 
+  -- the places, where c is what the call at each place does
+  placed-from : (c : ℕ → Change) (at : ℕ) (es : List (Call × Answer)) (h : History) (l : Ledger) (s : List (List ℕ)) → AllTold es h → Matches side ch c at es h
+      → Balance side l s (h .kept ch) → Placed c at l → (n : ℕ) × Placed c n (ledgerFrom side ch at es h l)
+  placed-from c at [] h l s t k b p = (at, p)
+  placed-from c at (e ∷ es) h l s t k b p =
+      placed-from c (suc at) es _ _ _ (t .1) (k .1) (step-balance side ch at (e .0) (e .1) h l s (t .0) b)
+      (placed-after c (b .accounts) at (change side ch (e .0) (e .1) h) (k .0) (effect ch (e .1) h s side (e .0) (t .0) (b .readable) .asked) p)
+
   pub balanced : (es : List (Call × Answer)) → AllTold es start → Balance side (ledger side ch es) (givenOut side ch es) (history es start .kept ch)
-  balanced es t = from 1 es start emptyLedger [] t (first side)
+  balanced es t = from _ es start emptyLedger [] t (first side)
 
   pub never-empty : (es : List (Call × Answer)) → AllTold es start → NeverEmpty side ch es start
   never-empty es t = none-asked 1 es start emptyLedger [] t (first side)
+
+  pub placed : (es : List (Call × Answer)) → AllTold es start → (n : ℕ) × Placed (changeAt side ch es) n (ledger side ch es)
+  placed es t =
+      placed-from (changeAt side ch es) 1 es start emptyLedger [] t (matches side ch es) (first side) (none-placed (changeAt side ch es) 1)

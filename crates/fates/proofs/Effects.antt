@@ -1,6 +1,6 @@
 -- What every call does to a FIFO of the history, to what the answers gave out of it, and to its overwritten.
 -- Assumes nothing.
-use Prim.Native.Nat.{ℕ, _+_, _%_, _^_, _<_}
+use Prim.Native.Nat.{ℕ, _+_, _<_}
 use mathlib.Core.Path.{_≡_, refl, sym, ap, _∙_, subst}
 use mathlib.Core.Bool.{Bool, true, false, cond}
 use mathlib.Core.List.{List, [], _∷_, _++_, map, append-nil}
@@ -16,7 +16,7 @@ use Rattle.receive.specs.Reading.{shown}
 use Rattle.receive.specs.Fates.{arrivalChange}
 use Rattle.receive.specs.declared.Arrival.the-variants.{Ignored, Filtered, Appended, Dropped, Overwriting}
 use Rattle.receive.proofs.Laws.{entry-shown}
-use Rattle.channel_calls.specs.Answers.{place}
+use Rattle.channel_calls.specs.Answers.{settingNumber}
 use Rattle.channel_calls.specs.declared.calls.SettingCall.the-variants.{WriteSetting, ReadSetting}
 use Rattle.channel_calls.specs.declared.calls.TestCall.the-variants.{Sample, ResetTest, InitiateTest}
 use Rattle.channel_calls.specs.declared.calls.ReceiveCall.the-variants.{Arrive, ReadFifo, ReadMailbox}
@@ -152,7 +152,7 @@ read-fits {f} a r t =
 
 receive-fits : (stamp : ℕ) (k : ChannelCall) (a : Answer) (h : Kept) → Told k a h → AllReadable Receiving (h .receive .held)
     → Fits Receiving (receiveChange stamp k a (h .settings)) (h .receive) (outOf Receiving k a)
-receive-fits stamp (Settings (WriteSetting s v)) a h t r = mode-fits (eqb (place s) receiveMode) (eqb (word (h .settings) receiveMode) v)
+receive-fits stamp (Settings (WriteSetting s v)) a h t r = mode-fits (eqb (settingNumber s) receiveMode) (eqb (word (h .settings) receiveMode) v)
 receive-fits stamp (Settings (ReadSetting s)) a h t r = stays
 receive-fits stamp (Memories k) a h t r = stays
 receive-fits stamp (Status k) a h t r = stays

@@ -3,12 +3,12 @@
 use Prim.Native.Nat.{ℕ, zero, suc, _+_, _≤_, _<_}
 use mathlib.Core.Path.{_≡_, refl, sym, ap, _∙_}
 use mathlib.Core.Bool.{Bool, true, false, cond}
-use mathlib.Core.List.{List, [], _∷_, _++_, map, append-nil, append-assoc}
+use mathlib.Core.List.{List, [], _∷_, _++_, map, append-assoc}
 use native.Mathlib.Omega.{arith}
 use lib.ListN.{length, getD, drop, replicate, length-append, length-drop, length-replicate}
 use lib.Seq.{drop-length, drop-append-le, drop-drop}
 use Rattle.block.specs.Fifos.{Fifo, Change, Stays, Adds, Overwrites, Takes, Clears, Begins, changed, overwrittenAfter}
-use Rattle.fates.specs.Ledger.{Fate, TakenOut, Cleared, Overwritten, Accepted, Fated, Ledger, remaining, entered, given, ledgerAfter, is, number, withFate, entries}
+use Rattle.fates.specs.Ledger.{Fate, TakenOut, Cleared, Overwritten, Accepted, Fated, Ledger, remaining, entered, fateGiven, ledgerAfter, is, number, withFate, entries}
 use Rattle.fates.specs.Accounts.{Accounts, OldestHeld}
 
 -- ---- lists
@@ -76,7 +76,7 @@ module _ {l : Ledger} {f : Fifo} {o : ℕ} (a : Accounts l f o) where
   -- the n oldest get a fate: f′ and o′ are what the history keeps then
   given-accounts : (at : ℕ) (w : Fate) (n : ℕ) (f′ : Fifo) (o′ : ℕ) → n ≤ length (remaining l) → drop n (f .held) ≡ f′ .held → f .accepted ≡ f′ .accepted
       → f .taken + cond (is TakenOut w) n 0 ≡ f′ .taken → f .cleared + cond (is Cleared w) n 0 ≡ f′ .cleared → o + cond (is Overwritten w) n 0 ≡ o′
-      → Accounts (given l at w n) f′ o′
+      → Accounts (fateGiven l at w n) f′ o′
   given-accounts at w n f′ o′ h p q t c r =
       let g : Fated = record { fate = w; place = at } in
       let long : length (l .fates ++ replicate n g) ≡ length (l .fates) + n = length-append (l .fates) (replicate n g) ∙ ap (λ (x : ℕ). length (l .fates) + x) (length-replicate n g) in
@@ -92,10 +92,10 @@ module _ {l : Ledger} {f : Fifo} {o : ℕ} (a : Accounts l f o) where
       }
 
   -- the oldest is overwritten
-  abbrev without : Fifo
+  abbrev pub without : Fifo
   without = record { held = drop 1 (f .held); accepted = f .accepted; taken = f .taken; cleared = f .cleared }
 
-  overwritten-accounts : (at : ℕ) → 0 < length (f .held) → Accounts (given l at Overwritten 1) without (o + 1)
+  pub overwritten-accounts : (at : ℕ) → 0 < length (f .held) → Accounts (fateGiven l at Overwritten 1) without (o + 1)
   overwritten-accounts at h =
       given-accounts at Overwritten 1 without (o + 1) (omega (arith, remaining-held)) refl refl (omega arith) (omega arith) refl
 

@@ -3,6 +3,7 @@ pub mod Steps
 pub mod Runs
 pub mod Tells
 pub mod Ledger
+pub mod Places
 pub mod Effects
 pub mod Balance
 pub mod Theorem

@@ -7,7 +7,7 @@ use Rattle.block.specs.Fifos.{Fifo, Change, Stays, Adds, Overwrites, Takes, Cle
 use Rattle.channel_calls.specs.declared.calls.Answer.{Answer}
 use Rattle.module.specs.declared.calls.Call.{Call}
 use Rattle.fates.specs.History.{History, historyStep}
-use Rattle.fates.specs.Ledger.{Fate, TakenOut, Cleared, Overwritten, Ledger, remaining, number, entries, Side, fifoOf, change}
+use Rattle.fates.specs.Ledger.{TakenOut, Cleared, Overwritten, Ledger, remaining, number, entries, Side, fifoOf, change}
 
 -- the history's held entries and counts, o of the overwritten, are the ledger's
 pub record Accounts (l : Ledger) (f : Fifo) (o : ℕ) : Type 0 where

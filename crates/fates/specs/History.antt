@@ -12,7 +12,7 @@ use Rattle.module.specs.declared.calls.Call.{Call}
 use Rattle.module.specs.declared.calls.Call.the-variants.{PowerUp, Reset, Wide, On}
 
 -- "It keeps the stamp, all settings and, for each FIFO, the held entries and whole-number counts.": stamp resolution and fault threshold are
--- the whole module's settings, the rest is kept of each channel
+-- the whole module's settings, the rest is kept of each channel; and the channel count that the power-up asked for
 pub record History : Type 0 where
   pub count : ℕ
   pub stamp : ℕ

@@ -1,5 +1,6 @@
 -- The ledger of a FIFO: the entries that it accepted since the last accepted power-up, by number, and their fates (demand 3).
-use Prim.Native.Nat.{ℕ, suc, _+_}
+use Prim.Native.Nat.{ℕ, zero, suc, _+_, _≤_, _<_}
+use mathlib.Core.Path.{_≡_}
 use mathlib.Core.List.{List, [], _∷_, _++_, map}
 use mathlib.Core.Bool.{Bool, true, false, cond}
 use lib.Dec.{eqb}
@@ -52,20 +53,21 @@ module _ (l : Ledger) where
   entered at e = record { accepted = l .accepted ++ (record { entry = e; place = at } ∷ []); fates = l .fates }
 
   -- the n oldest of those without a fate get this one
-  abbrev pub given : ℕ → Fate → ℕ → Ledger
-  given at f n = record { accepted = l .accepted; fates = l .fates ++ replicate n (record { fate = f; place = at }) }
+  abbrev pub fateGiven : ℕ → Fate → ℕ → Ledger
+  fateGiven at f n = record { accepted = l .accepted; fates = l .fates ++ replicate n (record { fate = f; place = at }) }
 
 -- the ledger after the call at a place, which makes this change of the FIFO
 abbrev pub ledgerAfter : ℕ → Change → Ledger → Ledger
 ledgerAfter at Stays l = l
 ledgerAfter at (Adds e) l = entered l at e
-ledgerAfter at (Overwrites e) l = entered (given l at Overwritten 1) at e
-ledgerAfter at Takes l = given l at TakenOut 1
-ledgerAfter at Clears l = given l at Cleared (length (remaining l))
+ledgerAfter at (Overwrites e) l = entered (fateGiven l at Overwritten 1) at e
+ledgerAfter at Takes l = fateGiven l at TakenOut 1
+ledgerAfter at Clears l = fateGiven l at Cleared (length (remaining l))
 ledgerAfter at Begins l = emptyLedger
 
 -- ---- what a ledger says
 
+-- whether two fates are the same
 abbrev pub is : Fate → Fate → Bool
 is TakenOut TakenOut = true
 is TakenOut Cleared = false
@@ -77,18 +79,18 @@ is Overwritten TakenOut = false
 is Overwritten Cleared = false
 is Overwritten Overwritten = true
 
--- how many entries have a fate
+-- how many of these fates are f
 abbrev pub number : Fate → List Fated → ℕ
 number f [] = 0
 number f (g ∷ gs) = cond (is f (g .fate)) 1 0 + number f gs
 
--- the entries that have it, in number order
+-- the entries whose fate is f, in number order
 abbrev pub withFate : Fate → List Accepted → List Fated → List (List ℕ)
 withFate f [] gs = []
 withFate f (x ∷ xs) [] = []
 withFate f (x ∷ xs) (g ∷ gs) = cond (is f (g .fate)) (x .entry ∷ []) [] ++ withFate f xs gs
 
--- the entries of a part of it
+-- the entries alone, without the places
 abbrev pub entries : List Accepted → List (List ℕ)
 entries xs = map (λ x. x .entry) xs
 
@@ -134,3 +136,58 @@ ledgerFrom side ch at (e ∷ es) h l =
 -- "number the entries that each FIFO accepted since the last accepted power-up"
 abbrev pub ledger : Side → ℕ → List (Call × Answer) → Ledger
 ledger side ch es = ledgerFrom side ch 1 es start emptyLedger
+
+-- ---- the calls that it names
+
+-- what the call behind the first n of a list does to the FIFO
+abbrev pub changeAfter : Side → ℕ → ℕ → List (Call × Answer) → History → Change
+changeAfter side ch n [] h = Stays
+changeAfter side ch zero (e ∷ es) h = change side ch (e .0) (e .1) h
+changeAfter side ch (suc n) (e ∷ es) h = changeAfter side ch n es (historyStep (e .0) (e .1) h)
+
+-- what the call at a place, from 1, does to it
+abbrev pub changeAt : Side → ℕ → List (Call × Answer) → ℕ → Change
+changeAt side ch es zero = Stays
+changeAt side ch es (suc n) = changeAfter side ch n es start
+
+-- a change that accepts an entry, and one that gives a fate
+abbrev pub AcceptsEntry : Change → List ℕ → Type 0
+AcceptsEntry Stays x = ⊥
+AcceptsEntry (Adds e) x = e ≡ x
+AcceptsEntry (Overwrites e) x = e ≡ x
+AcceptsEntry Takes x = ⊥
+AcceptsEntry Clears x = ⊥
+AcceptsEntry Begins x = ⊥
+
+abbrev pub GivesFate : Change → Fate → Type 0
+GivesFate Stays f = ⊥
+GivesFate (Adds e) f = ⊥
+GivesFate (Overwrites e) f = f ≡ Overwritten
+GivesFate Takes f = f ≡ TakenOut
+GivesFate Clears f = f ≡ Cleared
+GivesFate Begins f = ⊥
+
+-- every entry was accepted by the call at its place, and every fate given by the call at its place
+module _ (c : ℕ → Change) where
+  abbrev pub EachAccepted : List Accepted → Type 0
+  EachAccepted [] = Unit
+  EachAccepted (x ∷ xs) = AcceptsEntry (c (x .place)) (x .entry) × EachAccepted xs
+
+  abbrev pub EachGiven : List Fated → Type 0
+  EachGiven [] = Unit
+  EachGiven (g ∷ gs) = GivesFate (c (g .place)) (g .fate) × EachGiven gs
+
+-- every fate was given by a later call than the one that accepted the entry
+abbrev pub Later : List Accepted → List Fated → Type 0
+Later [] gs = Unit
+Later (x ∷ xs) [] = Unit
+Later (x ∷ xs) (g ∷ gs) = (x .place < g .place) × Later xs gs
+
+-- places in the order of the list
+abbrev pub NoneBefore : ℕ → List ℕ → Type 0
+NoneBefore x [] = Unit
+NoneBefore x (y ∷ s) = (x ≤ y) × NoneBefore x s
+
+abbrev pub InOrder : List ℕ → Type 0
+InOrder [] = Unit
+InOrder (x ∷ s) = NoneBefore x s × InOrder s

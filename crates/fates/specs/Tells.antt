@@ -15,7 +15,7 @@ CallTold Reset a h = Unit
 CallTold (Wide k) a h = Unit
 CallTold (On ch k) a h = isRefused a ≡ false → Told k a (h .kept ch)
 
--- "The oldest is never asked for with none held.": of each call in order
+-- the same of each call of a list in order, by the history before it
 abbrev pub AllTold : List (Call × Answer) → History → Type 0
 AllTold [] h = Unit
 AllTold (e ∷ es) h = CallTold (e .0) (e .1) h × AllTold es (historyStep (e .0) (e .1) h)

@@ -1,8 +1,8 @@
 -- The laws of blocks: what a block is made of, and that one block's change leaves the rest.
 -- Assumes nothing.
 use Prim.Native.Nat.{ℕ, _+_, _*_, _-_, _≤_, _<_}
-use mathlib.Core.Path.{_≡_, refl, sym, ap, _∙_}
-use mathlib.Core.List.{List, [], _∷_, _++_}
+use mathlib.Core.Path.{_≡_, ap, _∙_}
+use mathlib.Core.List.{List, _++_}
 use native.Mathlib.Decide.{decLt}
 use native.Mathlib.Nat.{add-sub-cancel-left}
 use native.Mathlib.Omega.{arith}
@@ -11,9 +11,9 @@ use lib.Seq.{getD-take, drop-set-lt, drop-drop}
 use borrow.Rule.Slice.PartMut.{putMid}
 use Rattle.block.specs.Layout.{word, blockWords}
 use Rattle.block.specs.Ranges.{Usable}
-use Rattle.frame.specs.Layout.{count, moduleWords, most, need, Framed, base, block, withBlock}
+use Rattle.frame.specs.Layout.{count, moduleWords, Framed, base, block, withBlock}
 use Rattle.frame.specs.Refusals.{addressRefusal}
-use Rattle.frame.proofs.Parts.{part-front, part-back, splice-front, splice-length, part-same, part-below, part-above, splice-comm}
+use Rattle.frame.proofs.Parts.{part-back, splice-length, part-same, part-below, part-above}
 use Rattle.frame.proofs.Refused.{Standing, standing, addressed}
 
 -- a block as the code cuts it, and as the cut comes back

@@ -2,7 +2,7 @@
 use Prim.Native.Nat.{ℕ, _+_, _*_, _-_, _≤_}
 use mathlib.Core.List.{List, _++_}
 use lib.ListN.{take, drop}
-use Rattle.block.specs.Layout.{word, blockWords}
+use Rattle.block.specs.Layout.{blockWords}
 
 -- the module part
 abbrev pub count : ℕ

@@ -1,7 +1,7 @@
 -- When a module's memory is refused, and by which number (paper 01, "Memory and answer numbers", rows 1 to 3).
 use Prim.Native.Nat.{ℕ, zero, suc}
 use mathlib.Core.List.{List, [], _∷_}
-use mathlib.Core.Bool.{Bool, true, false, cond}
+use mathlib.Core.Bool.{Bool, true, cond}
 use lib.Dec.{eqb, ltb}
 use lib.ListN.{length}
 use Rattle.block.specs.Layout.{word}
@@ -37,7 +37,7 @@ partSound m = allWithin partLeasts partGreatests m moduleWords
 unfoldable pub partRefusal : List ℕ → ℕ
 partRefusal m = cond (eqb (frameRefusal m) 0) (cond (partSound m) 0 2) (frameRefusal m)
 
--- the refusal of an addressed channel: "3 channel number outside 1 to the stored count", "or of the addressed channel"
+-- the refusal of an addressed channel: "channel number outside 1 to the stored count", "or of the addressed channel"
 unfoldable pub channelOf : ℕ → ℕ → ℕ → Bool → ℕ
 channelOf part k ch ok =
     cond (eqb part 0)

@@ -4,7 +4,7 @@ ghost use mathlib.Core.Path.{_≡_};
 ghost use Prim.Native.Nat.{_≤_};
 ghost use lib.ListN.{length};
 ghost use Rattle.frame.specs.Layout.{moduleWords, most};
-ghost use Rattle.frame.specs.Counters.{sampled, countersOf, sampledAt, top};
+ghost use Rattle.frame.specs.Counters.{sampled, countersOf, sampledAt};
 
 // Where a counter stops.
 const TOP: u32 = 65536;

@@ -10,7 +10,7 @@ ghost use Prim.Native.Nat.{_≤_, _<_};
 ghost use lib.ListN.{length};
 ghost use Rattle.block.specs.Ranges.{within};
 ghost use Rattle.frame.specs.Layout.{moduleWords};
-ghost use Rattle.frame.specs.Refusals.{frameRefusal, partLeasts, partGreatests, partSound, partRefusal, addressRefusal, soundTo, wideRefusal};
+ghost use Rattle.frame.specs.Refusals.{frameRefusal, partLeasts, partGreatests, partSound, partRefusal, addressRefusal};
 
 const LEAST: [u32; 16] = [1, 0, 0, 1, 0, 0, 0, 0, 0, 0, 0, 0, 0, 0, 0, 0];
 
@@ -33,7 +33,7 @@ const GREATEST: [u32; 16] = [
     65536,
 ];
 
-// The refusal of memory that is too short, or whose channel count is none.
+// The refusal of memory that is too short, or whose stored count is outside 1 to 12.
 fn frame_refusal(mem: &[u32]) -> u32
     ensures { λ r. ⌜ r ≡ frameRefusal (now (mem .entry)) ⌝ }
 {

@@ -1,16 +1,14 @@
 -- An accepted call on a channel's block, as a change of the module's memory.
 -- Assumes nothing.
-use Prim.Native.Nat.{ℕ, _+_, _-_, _*_, _≤_, _<_}
-use mathlib.Core.Path.{_≡_, refl, sym, ap, ap₂, _∙_}
-use mathlib.Core.Bool.{Bool, true, false, cond}
+use Prim.Native.Nat.{ℕ, _+_, _-_, _≤_}
+use mathlib.Core.Path.{_≡_, sym, ap, ap₂, _∙_}
+use mathlib.Core.Bool.{Bool, cond}
 use mathlib.Core.List.{List}
 use native.Mathlib.Omega.{arith}
 use borrow.Author.Tests.{eq-eqb, ne-eqb}
 use borrow.Rule.Slice.PartMut.{putMid, same-len-mid}
-use lib.Dec.{eqb}
 use lib.ListN.{length, take, drop, set, length-set}
 use Rattle.block.specs.Layout.{word, blockWords}
-use Rattle.block.specs.Ranges.{Usable}
 use Rattle.status.specs.Status.{faulty}
 use Rattle.channel_calls.specs.Refusals.{channelRefusal}
 use Rattle.channel.specs.Channel.{blockAnswer, blockAfter}
@@ -18,7 +16,7 @@ use Rattle.channel_calls.specs.declared.calls.Answer.{Answer}
 use Rattle.channel_calls.specs.declared.calls.Answer.the-variants.{Refused}
 use Rattle.channel_calls.specs.declared.calls.ChannelCall.{ChannelCall}
 use Rattle.channel_calls.specs.declared.calls.Given.{Given}
-use Rattle.frame.specs.Layout.{stamp, threshold, counters, count, most, moduleWords, base, block, withBlock}
+use Rattle.frame.specs.Layout.{stamp, threshold, most, base, block, withBlock}
 use Rattle.frame.specs.Refusals.{addressRefusal}
 use Rattle.frame.proofs.Blocks.{Within, part-is, put-is, block-set}
 use Rattle.module.specs.OnChannel.{Room, onRefusal, counterAt, counterAfter, givenOf, acceptedAfter, answerUnless, leaveUnless}

@@ -1,10 +1,10 @@
 -- A channel's counter, out of the twelve that pass as one array.
 -- Assumes nothing.
-use Prim.Native.Nat.{ℕ, _+_, _-_, _≤_, _<_}
+use Prim.Native.Nat.{ℕ, _-_, _≤_, _<_}
 use mathlib.Core.Path.{_≡_, ap, _∙_}
 use mathlib.Core.List.{List}
 use native.Mathlib.Omega.{arith}
-use lib.ListN.{length, getD, take, drop, length-take, length-drop}
+use lib.ListN.{length, getD, drop, length-take, length-drop}
 use lib.Seq.{getD-set-same, getD-take, getD-drop}
 use Rattle.block.specs.Layout.{word}
 use Rattle.frame.specs.Layout.{counters, moduleWords, most}

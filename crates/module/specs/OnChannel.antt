@@ -1,7 +1,7 @@
 -- A call on one channel of a module's memory (paper 01, "Memory and answer numbers" and "Faults and status").
 use Prim.Native.Nat.{ℕ, _+_, _-_, _≤_}
 use mathlib.Core.List.{List}
-use mathlib.Core.Bool.{Bool, true, false, cond}
+use mathlib.Core.Bool.{cond}
 use lib.Dec.{eqb}
 use lib.ListN.{length, set}
 use Rattle.block.specs.Layout.{word, blockWords}

@@ -1,7 +1,6 @@
 -- Every call on a module's memory: what it answers and what it leaves (paper 01).
 use Prim.Native.Nat.{ℕ}
 use mathlib.Core.List.{List}
-use mathlib.Core.Bool.{Bool, true, false, cond}
 use lib.ListN.{length}
 use Rattle.channel_calls.specs.Answers.{channelValues, numbersOf}
 use Rattle.channel_calls.specs.declared.calls.Answer.{Answer}

@@ -1,12 +1,9 @@
 -- The factory's module part is in its ranges.
 -- Assumes nothing.
 use Prim.Native.Nat.{ℕ, zero, suc, _-_, _≤_, _<_}
-use mathlib.Core.Path.{_≡_, refl}
-use mathlib.Core.Bool.{Bool, true, false}
 use native.Mathlib.Omega.{arith}
-use lib.Dec.{T}
 use lib.ListN.{getD}
-use Rattle.word.proofs.Computed.{at}
+use Rattle.word.proofs.Computed.{passes}
 use Rattle.block.specs.Ranges.{within}
 use Rattle.block.proofs.Sound.{is-within}
 use Rattle.frame.specs.Layout.{count, moduleWords, most}
@@ -14,13 +11,9 @@ use Rattle.frame.specs.Refusals.{partLeasts, partGreatests}
 use Rattle.power.specs.Power.{factoryPart}
 use Rattle.module_laws.proofs.Stores.{inPart}
 
-holds : (t : Bool) → T t → t ≡ true
-holds true h = refl
-holds false h = absurd h
-
 -- each word of the factory's module part is in its range
 pub factory-in : (k i : ℕ) → 1 ≤ k → k ≤ most → i < moduleWords → inPart i (getD (factoryPart k) i 0)
 unfolding partLeasts partGreatests
 factory-in k zero l h q = is-within partLeasts partGreatests count k l h
 factory-in k (suc i) l h q =
-    holds _ (at (λ j. within partLeasts partGreatests (suc j) (getD (factoryPart k) (suc j) 0)) (moduleWords - 1) tt i (omega arith))
+    passes (λ j. within partLeasts partGreatests (suc j) (getD (factoryPart k) (suc j) 0)) (moduleWords - 1) tt i (omega arith)

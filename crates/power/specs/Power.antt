@@ -15,7 +15,7 @@ powerRefusal k n =
     (cond (ltb most k) 4
     (cond (ltb n (need k)) 1 0))
 
--- "stamp and counters 0", the fault threshold 5 and the stamp resolution 0 of the factory, counters "beside those of unused channels (0 from power-up)"
+-- "stamp and counters 0", the fault threshold 5 and the stamp resolution 0 of the factory, counters "beside those of unused channels (0 from power-up, tested too)"
 abbrev pub factoryPart : ℕ → List ℕ
 factoryPart k = k ∷ 0 ∷ 0 ∷ 5 ∷ 0 ∷ 0 ∷ 0 ∷ 0 ∷ 0 ∷ 0 ∷ 0 ∷ 0 ∷ 0 ∷ 0 ∷ 0 ∷ 0 ∷ []
 

@@ -3,7 +3,7 @@
 use mathlib.Core.Path.{_≡_, refl, sym, ap, ap₂, _∙_}
 use mathlib.Core.Logic.{_≢_}
 use mathlib.Core.List.{List, [], _∷_, _++_}
-use Prim.Native.Nat.{ℕ, zero, suc, _+_, _-_, _*_, _%_, _≤_, _<_}
+use Prim.Native.Nat.{ℕ, zero, suc, _+_, _-_, _%_, _≤_, _<_}
 use native.Mathlib.Nat.{add-zero, add-suc, suc-add, suc-mod, mod-lt, mod-mod, mod-add-mod, mod-eq-of-lt, mod-eq-sub-mod, mul-le-mul-left, lt-of-mul-lt-mul-left}
 use native.Mathlib.Numerals.{add-one, sub-one}
 use native.Mathlib.Decide.{decLt}
@@ -115,21 +115,21 @@ module _ (r : Ring) where
       rw (m, take-oldest b pos size h) (rw (mod-add-mod, p, q) at (append b _ e (next (r .slots) pos) (size - 1) refl w f (omega arith)))
 
   -- a block with the same words inside the ring holds the same entries, so stores outside of it leave them
-  pub frame : (b c : List ℕ) (pos level : ℕ) → 0 < r .slots → ((i : ℕ) → r .at ≤ i → i < end r → getD c i 0 ≡ getD b i 0)
+  pub elsewhere : (b c : List ℕ) (pos level : ℕ) → 0 < r .slots → ((i : ℕ) → r .at ≤ i → i < end r → getD c i 0 ≡ getD b i 0)
       → held r c pos level ≡ held r b pos level
-  frame b c pos level h s =
+  elsewhere b c pos level h s =
       held-same b c pos level (λ j l u. words-same b c _ _ (λ i l u. s i (omega arith) (omega (arith, inside j h))))
 
-  pub frame-set : (b : List ℕ) (i x pos level : ℕ) → 0 < r .slots → (r .at ≤ i → i < end r → ⊥)
+  pub elsewhere-set : (b : List ℕ) (i x pos level : ℕ) → 0 < r .slots → (r .at ≤ i → i < end r → ⊥)
       → held r (set b i x) pos level ≡ held r b pos level
-  frame-set b i x pos level h o = frame b _ pos level h (λ j l u. getD-set-other b i j x 0 (λ q. o (omega arith) (omega arith)))
+  elsewhere-set b i x pos level h o = elsewhere b _ pos level h (λ j l u. getD-set-other b i j x 0 (λ q. o (omega arith) (omega arith)))
 
-  pub frame-sets : (b : List ℕ) (s : ℕ) (e : List ℕ) (pos level : ℕ) → 0 < r .slots → ((i : ℕ) → s ≤ i → i < s + length e → r .at ≤ i → i < end r → ⊥)
+  pub elsewhere-sets : (b : List ℕ) (s : ℕ) (e : List ℕ) (pos level : ℕ) → 0 < r .slots → ((i : ℕ) → s ≤ i → i < s + length e → r .at ≤ i → i < end r → ⊥)
       → held r (sets b s e) pos level ≡ held r b pos level
-  frame-sets b s e pos level h o = frame b _ pos level h (λ i l u. sets-other b s e i (λ l′ u′. o i l′ u′ l u))
+  elsewhere-sets b s e pos level h o = elsewhere b _ pos level h (λ i l u. sets-other b s e i (λ l′ u′. o i l′ u′ l u))
 
 -- an entry stored in another ring, `o`, leaves the entries of this one
-pub frame-ring : (r o : Ring) (b c e : List ℕ) (k pos level : ℕ) → c ≡ sets b (slot o k) e → length e ≡ o .width → 0 < o .slots → 0 < r .slots
+pub elsewhere-ring : (r o : Ring) (b c e : List ℕ) (k pos level : ℕ) → c ≡ sets b (slot o k) e → length e ≡ o .width → 0 < o .slots → 0 < r .slots
     → ((i : ℕ) → o .at ≤ i → i < end o → r .at ≤ i → i < end r → ⊥) → held r c pos level ≡ held r b pos level
-frame-ring r o b c e k pos level m w p q d =
-    rw m (frame-sets r b _ e pos level q (λ i l u. d i (omega arith) (omega (arith, inside o k p))))
+elsewhere-ring r o b c e k pos level m w p q d =
+    rw m (elsewhere-sets r b _ e pos level q (λ i l u. d i (omega arith) (omega (arith, inside o k p))))

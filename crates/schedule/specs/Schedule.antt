@@ -1,6 +1,6 @@
 -- One command of the schedule (paper 01, "Transmit").
 use Prim.Native.Nat.{ℕ, _+_, _-_}
-use mathlib.Core.Bool.{Bool, true, false, cond}
+use mathlib.Core.Bool.{cond}
 use lib.Dec.{eqb, leb, ltb}
 use Rattle.word.specs.Gap.{clamped}
 use Rattle.word.specs.Parity.{asSent}

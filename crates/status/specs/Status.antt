@@ -1,7 +1,7 @@
 -- The seven conditions, the latch and the rule (paper 01, "Faults and status"). A mask has a bit for each condition: bit 0 weighs 1, bit 6 weighs 64.
-use Prim.Native.Nat.{ℕ, _+_, _/_, _%_, _≤_}
+use Prim.Native.Nat.{ℕ, _+_, _/_, _%_}
 use mathlib.Core.List.{List}
-use mathlib.Core.Bool.{Bool, true, false, cond}
+use mathlib.Core.Bool.{Bool, cond}
 use lib.Dec.{eqb, leb, ltb}
 use lib.ListN.{set}
 use Rattle.block.specs.Layout.{word, receiveLevel, receiveSize, almostFull, transmitLevel, almostEmpty, latch, enable, levelMask}

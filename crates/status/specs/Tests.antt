@@ -1,7 +1,7 @@
 -- The initiated test and a block's part of a module reset (paper 01, "Faults and status").
 use Prim.Native.Nat.{ℕ, _+_, _%_}
 use mathlib.Core.List.{List}
-use mathlib.Core.Bool.{Bool, true, false, cond}
+use mathlib.Core.Bool.{cond}
 use lib.Dec.{eqb}
 use lib.ListN.{set}
 use Rattle.block.specs.Layout.{word, latch, enable, levelMask}

@@ -9,7 +9,6 @@ use block::layout::ENABLE;
 use block::layout::LATCH;
 use block::layout::LEVEL_MASK;
 ghost use mathlib.Core.Path.{_≡_};
-ghost use Prim.Native.Nat.{_≤_};
 ghost use Rattle.block.specs.Layout.{Whole};
 ghost use Rattle.status.specs.Tests.{fifosCleared, tested, blockReset};
 

@@ -1,7 +1,7 @@
 -- When a module-wide call is refused, and by which number (paper 01, "Memory and answer numbers").
 use Prim.Native.Nat.{ℕ}
 use mathlib.Core.List.{List}
-use mathlib.Core.Bool.{Bool, true, false, cond}
+use mathlib.Core.Bool.{cond}
 use lib.Dec.{eqb, ltb}
 use Rattle.frame.specs.Refusals.{wideRefusal}
 use Rattle.wide.specs.declared.calls.WideCall.{WideCall}

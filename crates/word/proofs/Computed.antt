@@ -1,8 +1,8 @@
 -- A rule of every number below a bound, by one test that is computed at each of them.
 -- Assumes nothing.
-use mathlib.Core.Path.{_≡_, subst}
+use mathlib.Core.Path.{_≡_, refl, subst}
 use mathlib.Core.Bool.{Bool, true, false}
-use Prim.Native.Nat.{ℕ, zero, suc, _<_, _≤_}
+use Prim.Native.Nat.{ℕ, zero, suc, _<_}
 use native.Mathlib.Decide.{decLt}
 use native.Mathlib.Omega.{arith}
 use lib.Dec.{T}
@@ -31,3 +31,11 @@ at test (suc n) t k h = go (λ l. at test n (rest (test n) (every test n) t) k l
     go : (k < n → T (test k)) → Dec (k < n) → T (test k)
     go below (yes l) = below l
     go below (no l) = let e : n ≡ k = omega arith in subst (λ (j : ℕ). T (test j)) e (first (test n) (every test n) t)
+
+holds : (t : Bool) → T t → t ≡ true
+holds true h = refl
+holds false h = absurd h
+
+-- the same as an equation
+pub passes : (test : ℕ → Bool) (n : ℕ) → T (every test n) → (k : ℕ) → k < n → test k ≡ true
+passes test n t k h = holds (test k) (at test n t k h)

@@ -1,6 +1,6 @@
 -- The gap between words, in bit times (paper 01, "Channel settings" and "Transmit").
 use Prim.Native.Nat.{ℕ}
-use mathlib.Core.Bool.{Bool, true, false, cond}
+use mathlib.Core.Bool.{cond}
 use lib.Dec.{ltb}
 
 -- "The least gap and the greatest rate"

@@ -1,6 +1,6 @@
 -- Parity on the way out and on the way in, by the channel's setting: 0 off, else on (paper 01, "The word").
 use Prim.Native.Nat.{ℕ, _+_, _%_, _^_}
-use mathlib.Core.Bool.{Bool, true, false, cond}
+use mathlib.Core.Bool.{cond}
 use lib.Dec.{eqb}
 use Rattle.word.specs.Word.{ones, inError}
 

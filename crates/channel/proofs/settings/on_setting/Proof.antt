@@ -6,10 +6,10 @@ use Rattle.channel.proofs.settings.on_setting.Statement.{statement}
 use Rattle.channel.proofs.settings.on_setting.Tie as tie
 
 returns : tie.Need-returns
-returns c = rw (c .before .before .before .before .before .before .call .given .1, ← c .before .before .before .place .ensures .0) (refl, c .before .before .write .ensures)
+returns c = rw (c .before .before .before .before .before .before .call .given .1, ← c .before .before .before .setting-number .ensures .0) (refl, c .before .before .write .ensures)
 
 returns-2 : tie.Need-returns-2
-returns-2 c = rw (c .before .before .before .call2 .given .1, ← c .before .place2 .ensures .0) (refl, refl)
+returns-2 c = rw (c .before .before .before .call2 .given .1, ← c .before .setting-number2 .ensures .0) (refl, refl)
 
 pub on-setting-spec : {M : Type 1} → statement M
 on-setting-spec =
