@@ -594,6 +594,18 @@ static void fates(nqabelihu_memory m)
     CHECK(latched(m, 3) == NQABELIHU_IS_FAULT, "fault");
 }
 
+/* The description's example: "32,768 failures with threshold 65,535: fault on the last." */
+static void many_failures(nqabelihu_memory m)
+{
+    uint32_t failures;
+    DO(nqabelihu_write_threshold(m, 65535));
+    for (failures = 1; failures < 32768; failures++)
+        DO(nqabelihu_sample(m, 1, 1));
+    CHECK(latched(m, 1) == 0, "no fault after 32,767 failures");
+    DO(nqabelihu_sample(m, 1, 1));
+    CHECK(latched(m, 1) == NQABELIHU_IS_FAULT, "fault on failure 32,768");
+}
+
 static void meanings(void)
 {
     uint32_t *words = between_guards(NQABELIHU_WORDS(COUNT), AT_END);
@@ -601,6 +613,7 @@ static void meanings(void)
     receiving(fresh(words));
     transmitting(fresh(words));
     fates(fresh(words));
+    many_failures(fresh(words));
 }
 
 int main(void)

@@ -136,7 +136,7 @@ fn main() {
     let worst = runs.iter().max_by(|a, b| a.ratio(1).total_cmp(&b.ratio(1))).expect("there are rows");
     println!();
     println!(
-        "slower than the Rust program in {slower} of {} rows; the greatest ratio is {:.2}, {} on {}",
+        "Slower than the Rust program by more than 3 percent in {slower} of {} rows; the greatest ratio is {:.2}, {} on {}.",
         runs.len(),
         worst.ratio(1),
         worst.kind.name,

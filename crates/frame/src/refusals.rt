@@ -2,7 +2,6 @@
 use crate::layout::COUNT;
 use crate::layout::MODULE_WORDS;
 use crate::layout::MOST;
-use crate::layout::need;
 use block::layout::WORDS;
 ghost use mathlib.Core.Path.{_≡_};
 ghost use mathlib.Core.Bool.{true};
