@@ -27,11 +27,9 @@ use Rattle.channel_calls.specs.declared.calls.Answer.{Answer}
 use Rattle.channel_calls.specs.declared.calls.Answer.the-variants.{Done, Refused, Value, Waiting, Fates, Arrived, Entry, Stepped}
 use Rattle.channel_laws.specs.Kept.{Kept, arrivalOf, givesWord, receiveChange, transmitChange, keptAfter}
 use Rattle.channel_laws.specs.Told.{Read, Sent, Told}
-use Rattle.wide.specs.declared.calls.WideCall.{WideCall}
-use Rattle.wide.specs.declared.calls.WideCall.the-variants.{AdvanceStamp, ZeroStamp, ReadStamp, WriteResolution, ReadResolution, WriteThreshold, ReadThreshold}
 use Rattle.module.specs.declared.calls.Call.{Call}
 use Rattle.module.specs.declared.calls.Call.the-variants.{PowerUp, Reset, Wide, On}
-use Rattle.fates.specs.History.{History, wideStep, acceptedStep, isRefused, historyStep}
+use Rattle.fates.specs.History.{History, acceptedStep, isRefused, historyStep}
 use Rattle.fates.specs.Tells.{CallTold}
 use Rattle.fates.specs.Ledger.{Side, Receiving, Transmitting, fifoOf, overwrittenOf, sideChange, acceptedChange, change}
 use Rattle.fates.specs.GivenOut.{entryIn, wordIn, outOf, outAccepted, outAfter, aside}
@@ -245,16 +243,6 @@ channel-effect Transmitting stamp k a h s t r =
     let f = transmit-fits k a h t in
     record { fifo = refl; overwritten = sym (none-overwritten k a); asked = f .asked; readable = f .readable; given = f .given s }
 
--- the stamp's calls and the fault threshold's
-wide-kept : (k : WideCall) (h : History) → wideStep k h .kept ≡ h .kept
-wide-kept (AdvanceStamp n) h = refl
-wide-kept ZeroStamp h = refl
-wide-kept ReadStamp h = refl
-wide-kept (WriteResolution x) h = refl
-wide-kept ReadResolution h = refl
-wide-kept (WriteThreshold x) h = refl
-wide-kept ReadThreshold h = refl
-
 module _ (ch : ℕ) (a : Answer) (h : History) (s : List (List ℕ)) where
   accepted-effect : (side : Side) (c : Call) → isRefused a ≡ false → CallTold c a h → AllReadable side (fifoOf side (h .kept ch) .held)
       → Effect side (acceptedChange side ch c a h) (h .kept ch) (acceptedStep c a h .kept ch) s (outAccepted side ch c a s)
@@ -262,13 +250,13 @@ module _ (ch : ℕ) (a : Answer) (h : History) (s : List (List ℕ)) where
   accepted-effect Transmitting (PowerUp n) e t r = record { fifo = refl; overwritten = refl; asked = tt; readable = tt; given = refl }
   accepted-effect Receiving Reset e t r = record { fifo = refl; overwritten = refl; asked = tt; readable = tt; given = refl }
   accepted-effect Transmitting Reset e t r = record { fifo = refl; overwritten = refl; asked = tt; readable = tt; given = refl }
-  accepted-effect side (Wide k) e t r = subst (λ (kept : ℕ → Kept). Effect side Stays (h .kept ch) (kept ch) s s) (sym (wide-kept k h)) (none side)
+  accepted-effect side (Wide k) e t r = none side
   accepted-effect side (On ch′ k) e t r = go (eqb ch′ ch) refl
     where
       go : (b : Bool) → eqb ch′ ch ≡ b
-          → Effect side (cond b (sideChange side (h .stamp) k a (h .kept ch .settings)) Stays) (h .kept ch)
-          (cond b (keptAfter _+_ (h .stamp) k a (h .kept ch)) (h .kept ch)) s (s ++ cond b (outOf side k a) [])
-      go true p = channel-effect side (h .stamp) k a (h .kept ch) s (subst (λ (x : ℕ). Told k a (h .kept x)) (eqb-true ch′ ch p) (t e)) r
+          → Effect side (cond b (sideChange side (h .part .stamp) k a (h .kept ch .settings)) Stays) (h .kept ch)
+          (cond b (keptAfter _+_ (h .part .stamp) k a (h .kept ch)) (h .kept ch)) s (s ++ cond b (outOf side k a) [])
+      go true p = channel-effect side (h .part .stamp) k a (h .kept ch) s (subst (λ (x : ℕ). Told k a (h .kept x)) (eqb-true ch′ ch p) (t e)) r
       go false p = record { fifo = refl; overwritten = refl; asked = tt; readable = tt; given = quiet side s }
 
   pub effect : (side : Side) (c : Call) → CallTold c a h → AllReadable side (fifoOf side (h .kept ch) .held)

@@ -15,7 +15,7 @@ use Rattle.channel.specs.Channel.{blockAnswer, blockAfter}
 use Rattle.channel_calls.specs.declared.calls.Answer.{Answer}
 use Rattle.channel_calls.specs.declared.calls.Answer.the-variants.{Done, Refused}
 use Rattle.channel_calls.specs.declared.calls.ChannelCall.{ChannelCall}
-use Rattle.channel_laws.specs.Kept.{Kept, keptOf, keptAfter, keptReset}
+use Rattle.channel_laws.specs.Kept.{keptOf, keptAfter, keptReset}
 use Rattle.channel_laws.proofs.Calls.{left}
 use Rattle.frame.specs.Layout.{count, stamp, resolution, threshold, moduleWords, need, block}
 use Rattle.frame.specs.Refusals.{wideRefusal}
@@ -35,7 +35,7 @@ use Rattle.module_laws.proofs.OnChannel.{on-within, on-call, on-word, on-same, 
 use Rattle.module_laws.proofs.OnModule.{wide-sane, wide-count, wide-word, wide-kept}
 use Rattle.module_laws.proofs.Reset.{reset-sane, reset-word, reset-kept}
 use Rattle.module_laws.proofs.Lent.{Alike, Short, front, front-on, front-wide, front-reset, short-on, short-wide, short-reset, powered-word, powered-kept, powered-sane}
-use Rattle.fates.specs.History.{History, poweredUp, wideStep, acceptedStep, historyStep}
+use Rattle.fates.specs.History.{Part, History, poweredUp, partAfter, acceptedStep, historyStep}
 use Rattle.fates.specs.Run.{lent}
 use Rattle.fates.specs.Agrees.{Agrees}
 use Rattle.fates.proofs.Accepted.{block-accepted, wide-accepted}
@@ -62,18 +62,18 @@ module _ {h : History} {m : List ℕ} (g : Agrees h m) where
     a = blockAnswer (givenOf ch k m) k (block m ch)
 
     module _ (e : onRefusal ch k m ≡ 0) where
-      same : keptOf (block (acceptedAfter ch k m) ch) ≡ reduced (keptAfter _+_ (h .stamp) k a (h .kept ch))
+      same : keptOf (block (acceptedAfter ch k m) ch) ≡ reduced (keptAfter _+_ (h .part .stamp) k a (h .kept ch))
       same =
           let w = on-within ch k m e in
           ap keptOf (on-same ch k m e)
           ∙ left (givenOf ch k m) k (w .usable) (on-call ch k m e) .is
           ∙ ap (λ (s : ℕ). keptAfter counted s k a (keptOf (block m ch))) (g .stamp)
-          ∙ ap (keptAfter counted (h .stamp) k a) (g .kept ch (w .low) (rw (g .count) at (w .high)))
-          ∙ sym (rolls (h .stamp) k a (h .kept ch))
+          ∙ ap (keptAfter counted (h .part .stamp) k a) (g .kept ch (w .low) (rw (g .count) at (w .high)))
+          ∙ sym (rolls (h .part .stamp) k a (h .kept ch))
 
       each : (ch′ : ℕ) → 1 ≤ ch′ → ch′ ≤ h .count → (t : Bool) → eqb ch ch′ ≡ t
-          → keptOf (block (acceptedAfter ch k m) ch′) ≡ reduced (cond t (keptAfter _+_ (h .stamp) k a (h .kept ch′)) (h .kept ch′))
-      each ch′ p q true z = subst (λ (x : ℕ). keptOf (block (acceptedAfter ch k m) x) ≡ reduced (keptAfter _+_ (h .stamp) k a (h .kept x))) (eqb-true ch ch′ z) same
+          → keptOf (block (acceptedAfter ch k m) ch′) ≡ reduced (cond t (keptAfter _+_ (h .part .stamp) k a (h .kept ch′)) (h .kept ch′))
+      each ch′ p q true z = subst (λ (x : ℕ). keptOf (block (acceptedAfter ch k m) x) ≡ reduced (keptAfter _+_ (h .part .stamp) k a (h .kept x))) (eqb-true ch ch′ z) same
       each ch′ p q false z = ap keptOf (on-other ch k m e ch′ p (eqb-false ch ch′ z)) ∙ g .kept ch′ p q
 
       on-accepted : Agrees (acceptedStep (On ch k) a h) (acceptedAfter ch k m)
@@ -107,57 +107,48 @@ module _ {h : History} {m : List ℕ} (g : Agrees h m) where
       }
   reset-step false e = g
 
-  -- a call of the stamp or of the fault threshold: what is stored, and what the history keeps then
-  record Stored (k : WideCall) : Type 0 where
-    stored-stamp : word (wideStored k m) stamp ≡ wideStep k h .stamp
-    stored-resolution : word (wideStored k m) resolution ≡ wideStep k h .resolution
-    stored-threshold : word (wideStored k m) threshold ≡ wideStep k h .threshold
-    count-same : h .count ≡ wideStep k h .count
-    kept-same : h .kept ≡ wideStep k h .kept
+  -- the stamp's calls and the fault threshold's: what is stored, by what the history keeps
+  record Stored (x : List ℕ) (p : Part) : Type 0 where
+    is-stamp : word x stamp ≡ p .stamp
+    is-resolution : word x resolution ≡ p .resolution
+    is-threshold : word x threshold ≡ p .threshold
 
-  -- a word of the module part written, and the others
+  unchanged : Stored m (h .part)
+  unchanged = record { is-stamp = g .stamp; is-resolution = g .resolution; is-threshold = g .threshold }
+
+  -- a word of the module part written, and another
   here : (i v : ℕ) → i < moduleWords → word (set m i v) i ≡ v
   here i v l = getD-set-same m i v 0 (omega (arith, g .sane .frame))
 
   there : (i j v : ℕ) {x : ℕ} → (j ≡ i → ⊥) → word m j ≡ x → word (set m i v) j ≡ x
   there i j v ne e = getD-set-other m i j v 0 ne ∙ e
 
-  stored : (k : WideCall) → Stored k
-  stored (AdvanceStamp n) =
+  stamped : (v : ℕ) {x : ℕ} → v ≡ x → Stored (set m stamp v) (record { stamp = x; resolution = h .part .resolution; threshold = h .part .threshold })
+  stamped v e =
       record {
-        stored-stamp = here stamp _ (omega arith) ∙ ap (λ (x : ℕ). (x + n) % 2 ^ 32) (g .stamp);
-        stored-resolution = there stamp resolution _ (omega arith) (g .resolution);
-        stored-threshold = there stamp threshold _ (omega arith) (g .threshold);
-        count-same = refl;
-        kept-same = refl;
+        is-stamp = here stamp v (omega arith) ∙ e;
+        is-resolution = there stamp resolution v (omega arith) (g .resolution);
+        is-threshold = there stamp threshold v (omega arith) (g .threshold);
       }
-  stored ZeroStamp =
-      record {
-        stored-stamp = here stamp 0 (omega arith);
-        stored-resolution = there stamp resolution 0 (omega arith) (g .resolution);
-        stored-threshold = there stamp threshold 0 (omega arith) (g .threshold);
-        count-same = refl;
-        kept-same = refl;
-      }
+
+  stored : (k : WideCall) → Stored (wideStored k m) (partAfter k (h .part))
+  stored (AdvanceStamp n) = stamped _ (ap (λ (x : ℕ). (x + n) % 2 ^ 32) (g .stamp))
+  stored ZeroStamp = stamped 0 refl
+  stored ReadStamp = unchanged
   stored (WriteResolution x) =
       record {
-        stored-stamp = there resolution stamp x (omega arith) (g .stamp);
-        stored-resolution = here resolution x (omega arith);
-        stored-threshold = there resolution threshold x (omega arith) (g .threshold);
-        count-same = refl;
-        kept-same = refl;
+        is-stamp = there resolution stamp x (omega arith) (g .stamp);
+        is-resolution = here resolution x (omega arith);
+        is-threshold = there resolution threshold x (omega arith) (g .threshold);
       }
+  stored ReadResolution = unchanged
   stored (WriteThreshold x) =
       record {
-        stored-stamp = there threshold stamp x (omega arith) (g .stamp);
-        stored-resolution = there threshold resolution x (omega arith) (g .resolution);
-        stored-threshold = here threshold x (omega arith);
-        count-same = refl;
-        kept-same = refl;
+        is-stamp = there threshold stamp x (omega arith) (g .stamp);
+        is-resolution = there threshold resolution x (omega arith) (g .resolution);
+        is-threshold = here threshold x (omega arith);
       }
-  stored ReadStamp = record { stored-stamp = g .stamp; stored-resolution = g .resolution; stored-threshold = g .threshold; count-same = refl; kept-same = refl }
-  stored ReadResolution = record { stored-stamp = g .stamp; stored-resolution = g .resolution; stored-threshold = g .threshold; count-same = refl; kept-same = refl }
-  stored ReadThreshold = record { stored-stamp = g .stamp; stored-resolution = g .resolution; stored-threshold = g .threshold; count-same = refl; kept-same = refl }
+  stored ReadThreshold = unchanged
 
   wide-step : (k : WideCall) (t : Bool) → eqb (callRefusal k m) 0 ≡ t
       → Agrees (historyStep (Wide k) (cond t (wideAnswer k m) (Refused (callRefusal k m))) h) (cond t (wideAfter k m) m)
@@ -168,13 +159,11 @@ module _ {h : History} {m : List ℕ} (g : Agrees h m) where
       rw (wide-accepted k m)
       (record {
         sane = wide-sane (g .sane) k e;
-        count = wide-count (g .sane) k e ∙ g .count ∙ s .count-same;
-        stamp = w stamp (omega arith) ∙ s .stored-stamp;
-        resolution = w resolution (omega arith) ∙ s .stored-resolution;
-        threshold = w threshold (omega arith) ∙ s .stored-threshold;
-        kept =
-            λ ch p q. let q′ : ch ≤ h .count = rw (s .count-same) q in
-            wide-kept (g .sane) k e ch p (rw (g .count) q′) ∙ g .kept ch p q′ ∙ ap (λ (f : ℕ → Kept). reduced (f ch)) (s .kept-same);
+        count = wide-count (g .sane) k e ∙ g .count;
+        stamp = w stamp (omega arith) ∙ s .is-stamp;
+        resolution = w resolution (omega arith) ∙ s .is-resolution;
+        threshold = w threshold (omega arith) ∙ s .is-threshold;
+        kept = λ ch p q. wide-kept (g .sane) k e ch p (rw (g .count) q) ∙ g .kept ch p q;
       })
   wide-step k false e = g
 

@@ -13,7 +13,7 @@ use Rattle.fates.specs.History.{History}
 pub record Agrees (h : History) (m : List ℕ) : Type 0 where
   pub sane : Sane m
   pub count : word m count ≡ h .count
-  pub stamp : word m stamp ≡ h .stamp
-  pub resolution : word m resolution ≡ h .resolution
-  pub threshold : word m threshold ≡ h .threshold
+  pub stamp : word m stamp ≡ h .part .stamp
+  pub resolution : word m resolution ≡ h .part .resolution
+  pub threshold : word m threshold ≡ h .part .threshold
   pub kept : (ch : ℕ) → 1 ≤ ch → ch ≤ h .count → keptOf (block m ch) ≡ reduced (h .kept ch)

@@ -11,55 +11,51 @@ use Rattle.wide.specs.declared.calls.WideCall.the-variants.{AdvanceStamp, ZeroS
 use Rattle.module.specs.declared.calls.Call.{Call}
 use Rattle.module.specs.declared.calls.Call.the-variants.{PowerUp, Reset, Wide, On}
 
--- "It keeps the stamp, all settings and, for each FIFO, the held entries and whole-number counts.": stamp resolution and fault threshold are
--- the whole module's settings, the rest is kept of each channel; and the channel count that the power-up asked for
-pub record History : Type 0 where
-  pub count : ℕ
+-- "It keeps the stamp, all settings and, for each FIFO, the held entries and whole-number counts."
+
+-- the stamp, and the settings of the whole module
+pub record Part : Type 0 where
   pub stamp : ℕ
   pub resolution : ℕ
   pub threshold : ℕ
+
+-- with what is kept of each channel, and the channel count that the power-up asked for
+pub record History : Type 0 where
+  pub count : ℕ
+  pub part : Part
   pub kept : ℕ → Kept
 
--- "factory settings, stamp .. 0" of the module, with what is kept of its channels
-abbrev pub factory : ℕ → (ℕ → Kept) → History
-factory n kept = record { count = n; stamp = 0; resolution = 0; threshold = 5; kept = kept }
-
 -- "Accepted power-up: factory settings, stamp and counts 0, none held."
+abbrev pub partFirst : Part
+partFirst = record { stamp = 0; resolution = 0; threshold = 5 }
+
 abbrev pub poweredUp : ℕ → History
-poweredUp n = factory n (λ ch. keptFirst)
+poweredUp n = record { count = n; part = partFirst; kept = λ ch. keptFirst }
 
 -- before any call: no channels
 abbrev pub start : History
 start = poweredUp 0
 
--- a stamp's call or the fault threshold's: "An advance by any 32-bit number is added and the counter rolls over. It can be zeroed."
-abbrev pub wideStep : WideCall → History → History
-wideStep (AdvanceStamp n) h =
-    record { count = h .count; stamp = (h .stamp + n) % 2 ^ 32; resolution = h .resolution; threshold = h .threshold; kept = h .kept }
-wideStep ZeroStamp h = record { count = h .count; stamp = 0; resolution = h .resolution; threshold = h .threshold; kept = h .kept }
-wideStep ReadStamp h = h
-wideStep (WriteResolution x) h = record { count = h .count; stamp = h .stamp; resolution = x; threshold = h .threshold; kept = h .kept }
-wideStep ReadResolution h = h
-wideStep (WriteThreshold x) h = record { count = h .count; stamp = h .stamp; resolution = h .resolution; threshold = x; kept = h .kept }
-wideStep ReadThreshold h = h
+-- the stamp's calls and the fault threshold's: "An advance by any 32-bit number is added and the counter rolls over. It can be zeroed."
+abbrev pub partAfter : WideCall → Part → Part
+partAfter (AdvanceStamp n) p = record { stamp = (p .stamp + n) % 2 ^ 32; resolution = p .resolution; threshold = p .threshold }
+partAfter ZeroStamp p = record { stamp = 0; resolution = p .resolution; threshold = p .threshold }
+partAfter ReadStamp p = p
+partAfter (WriteResolution x) p = record { stamp = p .stamp; resolution = x; threshold = p .threshold }
+partAfter ReadResolution p = p
+partAfter (WriteThreshold x) p = record { stamp = p .stamp; resolution = p .resolution; threshold = x }
+partAfter ReadThreshold p = p
 
 -- a call on channel ch: what is kept of it changes, and of the others it stays
-abbrev pub onStep : ℕ → (Kept → Kept) → History → History
-onStep ch f h =
-    record {
-      count = h .count;
-      stamp = h .stamp;
-      resolution = h .resolution;
-      threshold = h .threshold;
-      kept = λ ch′. cond (eqb ch ch′) (f (h .kept ch′)) (h .kept ch′);
-    }
+abbrev pub keptOn : ℕ → (Kept → Kept) → (ℕ → Kept) → ℕ → Kept
+keptOn ch f kept ch′ = cond (eqb ch ch′) (f (kept ch′)) (kept ch′)
 
 -- what an accepted call and its answer make of the history; "module reset, initiated test: as above, what they clear counted"
 abbrev pub acceptedStep : Call → Answer → History → History
 acceptedStep (PowerUp n) a h = poweredUp n
-acceptedStep Reset a h = factory (h .count) (λ ch. keptReset _+_ (h .kept ch))
-acceptedStep (Wide k) a h = wideStep k h
-acceptedStep (On ch k) a h = onStep ch (keptAfter _+_ (h .stamp) k a) h
+acceptedStep Reset a h = record { count = h .count; part = partFirst; kept = λ ch. keptReset _+_ (h .kept ch) }
+acceptedStep (Wide k) a h = record { count = h .count; part = partAfter k (h .part); kept = h .kept }
+acceptedStep (On ch k) a h = record { count = h .count; part = h .part; kept = keptOn ch (keptAfter _+_ (h .part .stamp) k a) (h .kept) }
 
 abbrev pub isRefused : Answer → Bool
 isRefused Done = false

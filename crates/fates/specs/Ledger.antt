@@ -119,7 +119,7 @@ abbrev pub acceptedChange : Side → ℕ → Call → Answer → History → Cha
 acceptedChange side ch (PowerUp n) a h = Begins
 acceptedChange side ch Reset a h = Clears
 acceptedChange side ch (Wide k) a h = Stays
-acceptedChange side ch (On ch′ k) a h = cond (eqb ch′ ch) (sideChange side (h .stamp) k a (h .kept ch .settings)) Stays
+acceptedChange side ch (On ch′ k) a h = cond (eqb ch′ ch) (sideChange side (h .part .stamp) k a (h .kept ch .settings)) Stays
 
 -- what a call does to it; "any refused one: nothing"
 abbrev pub change : Side → ℕ → Call → Answer → History → Change
