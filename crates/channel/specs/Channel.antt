@@ -59,14 +59,14 @@ statusShown (WriteLevelMask m) b a = a
 statusShown ReadLevelMask b a = a
 statusShown ReadPending b a = Value (pending b)
 
-abbrev pub shown : ChannelCall → List ℕ → Answer → Answer
-shown (Settings k) b a = a
-shown (Memories k) b a = a
-shown (Status k) b a = statusShown k b a
-shown (Tests k) b a = a
-shown (Reads k) b a = a
-shown (Receive k) b a = a
-shown (Transmit k) b a = a
+abbrev pub answerShown : ChannelCall → List ℕ → Answer → Answer
+answerShown (Settings k) b a = a
+answerShown (Memories k) b a = a
+answerShown (Status k) b a = statusShown k b a
+answerShown (Tests k) b a = a
+answerShown (Reads k) b a = a
+answerShown (Receive k) b a = a
+answerShown (Transmit k) b a = a
 
 abbrev pub blockAnswer : Given → ChannelCall → List ℕ → Answer
-blockAnswer g k b = shown k (blockAfter g k b) (didAnswer k b)
+blockAnswer g k b = answerShown k (blockAfter g k b) (didAnswer k b)

@@ -15,7 +15,7 @@ ghost use Prim.Native.Nat.{_+_, _≤_, _<_};
 ghost use Rattle.block.specs.Layout.{Whole};
 ghost use Rattle.block.specs.Ranges.{Usable};
 ghost use Rattle.channel_calls.specs.Refusals.{channelRefusal};
-ghost use Rattle.channel.specs.Channel.{didAnswer, didLeave, didSignal, holding, shown, blockAnswer, blockAfter};
+ghost use Rattle.channel.specs.Channel.{didAnswer, didLeave, didSignal, holding, answerShown, blockAnswer, blockAfter};
 ghost use Rattle.channel_calls.specs.declared.calls.Did.{Did};
 
 // An answer that signals nothing.
@@ -55,7 +55,7 @@ fn holding(fault: u32, block: &[u32]) -> u32
 // What a call answers, on the block that the rule left.
 fn show(block: &[u32], call: ChannelCall, answer: Answer) -> Answer
     requires { ⌜ Whole (now block) ⌝ }
-    ensures { λ r. ⌜ r ≡ shown call (now (block .entry)) answer ⌝ }
+    ensures { λ r. ⌜ r ≡ answerShown call (now (block .entry)) answer ⌝ }
 {
     match call {
         ChannelCall::Status(k) => crate::masks::show(block, k, answer),

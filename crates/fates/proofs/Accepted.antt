@@ -5,7 +5,7 @@ use mathlib.Core.Path.{_≡_, refl, ap}
 use mathlib.Core.Bool.{Bool, true, false, cond}
 use mathlib.Core.List.{List}
 use native.Mathlib.Omega.{arith}
-use Rattle.channel.specs.Channel.{didAnswer, shown}
+use Rattle.channel.specs.Channel.{didAnswer, answerShown}
 use Rattle.channel_calls.specs.declared.calls.SettingCall.the-variants.{WriteSetting, ReadSetting}
 use Rattle.channel_calls.specs.declared.calls.MemoryCall.the-variants.{WriteMatch, ReadMatch, WriteSchedule, ReadSchedule, WriteMessage, ReadMessage}
 use Rattle.channel_calls.specs.declared.calls.StatusCall.the-variants.{ReadStatus, ClearLatch, WriteEnable, ReadEnable, WriteLevelMask, ReadLevelMask, ReadPending}
@@ -24,7 +24,7 @@ pub no : {A : Type 0} → true ≡ false → A
 no e = let z : _≡_ {A = ℕ} 1 0 = ap (λ (b : Bool). cond b 1 0) e in absurd (omega arith)
 
 -- the answer on block b, shown by the block c that is left
-pub block-accepted : (k : ChannelCall) (c b : List ℕ) → isRefused (shown k c (didAnswer k b)) ≡ false
+pub block-accepted : (k : ChannelCall) (c b : List ℕ) → isRefused (answerShown k c (didAnswer k b)) ≡ false
 block-accepted (Settings (WriteSetting s v)) c b = refl
 block-accepted (Settings (ReadSetting s)) c b = refl
 block-accepted (Memories (WriteMatch i v)) c b = refl

@@ -18,15 +18,15 @@ abbrev pub eight : Item → List ℕ → List ℕ
 eight i m = itemNumbers i m ++ replicate (8 - length (itemNumbers i m)) 0
 
 -- seven words of values
-abbrev pub seven : List ℕ → List ℕ
-seven l = getD l 1 0 ∷ getD l 2 0 ∷ getD l 3 0 ∷ getD l 4 0 ∷ getD l 5 0 ∷ getD l 6 0 ∷ getD l 7 0 ∷ []
+abbrev pub valueWords : List ℕ → List ℕ
+valueWords l = getD l 1 0 ∷ getD l 2 0 ∷ getD l 3 0 ∷ getD l 4 0 ∷ getD l 5 0 ∷ getD l 6 0 ∷ getD l 7 0 ∷ []
 
 -- fewer than seven words lent for the values: 24, tested first, nothing written
 unfoldable pub hostNumber : ℕ → Item → List ℕ → ℕ
 hostNumber n i m = cond (ltb n 7) 24 (getD (eight i m) 0 0)
 
 unfoldable pub hostValues : List ℕ → Item → List ℕ → List ℕ
-hostValues v i m = cond (ltb (length v) 7) v (sets v 0 (seven (eight i m)))
+hostValues v i m = cond (ltb (length v) 7) v (sets v 0 (valueWords (eight i m)))
 
 unfoldable pub hostAfter : ℕ → Item → List ℕ → List ℕ
 hostAfter n i m = cond (ltb n 7) m (itemAfter i m)

@@ -5,7 +5,7 @@ use lib.Seq.{sets}
 use mathlib.Core.Path.{refl, ap}
 use native.Mathlib.Omega.{arith}
 use borrow.Author.Tests.{lt-ltb, le-ltb}
-use Rattle.host.specs.Host.{seven, hostNumber, hostValues, hostAfter}
+use Rattle.host.specs.Host.{valueWords, hostNumber, hostValues, hostAfter}
 use borrow.Author.Needs.{needs}
 use Rattle.host.proofs.nqabelihu_perform.Statement.{statement}
 use Rattle.host.proofs.nqabelihu_perform.Tie as tie
@@ -37,7 +37,7 @@ same-length-2 c = simp length-set
 
 returns-2 : tie.Need-returns-2
 unfolding hostNumber hostValues hostAfter
-returns-2 c = let t = le-ltb _ 7 (c .before .before .before .before .before .if1 .left) in let e = c .before .before .before .perform-item .ensures in (rw t (ap (λ w. getD w 0 0) (e .0 .1)), rw t (ap (λ w. sets (c .before .before .before .before .before .before .before .before .args .values .now) 0 (seven w)) (e .0 .1)), rw t (e .1))
+returns-2 c = let t = le-ltb _ 7 (c .before .before .before .before .before .if1 .left) in let e = c .before .before .before .perform-item .ensures in (rw t (ap (λ w. getD w 0 0) (e .0 .1)), rw t (ap (λ w. sets (c .before .before .before .before .before .before .before .before .args .values .now) 0 (valueWords w)) (e .0 .1)), rw t (e .1))
 
 pub nqabelihu-perform-spec : {M : Type 1} → statement M
 nqabelihu-perform-spec =
