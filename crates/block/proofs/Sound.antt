@@ -1,9 +1,9 @@
 -- What a sound block's numbers are.
 -- Assumes nothing.
-use mathlib.Core.Path.{_≡_, refl, ap, ap₂, _∙_}
+use mathlib.Core.Path.{_≡_, refl, sym, ap, ap₂, _∙_}
 use mathlib.Core.Logic.{_≢_}
 use mathlib.Core.List.{List, [], _∷_}
-use mathlib.Core.Bool.{Bool, true, false}
+use mathlib.Core.Bool.{Bool, true, _&&_, and-eq-true-iff}
 use Prim.Native.Nat.{ℕ, zero, suc, _≤_, _<_, zero-le}
 use native.Mathlib.Decide.{decLt, ℕ-discrete}
 use native.Mathlib.Nat.{le-trans}
@@ -13,73 +13,44 @@ use lib.Dec.{leb}
 use lib.ListN.{getD, set, length-set}
 use lib.Seq.{sets, getD-set-same, getD-set-other}
 use Rattle.block.specs.Layout.{word, ranged, receiveLevel, receiveSize, Whole}
-use Rattle.block.specs.Ranges.{leasts, greatests, both, within, allWithin, inRange, sound, Usable}
+use Rattle.block.specs.Ranges.{leasts, greatests, within, allWithin, inRange, sound, Usable}
 
 -- ---- words within two tables, one by one
 
-both-left : (a b : Bool) → both a b ≡ true → a ≡ true
-both-left true b e = refl
-both-left false b e = e
-
-both-right : (a b : Bool) → both a b ≡ true → b ≡ true
-both-right true b e = e
-both-right false b e = absurd (let z : _≡_ {A = ℕ} 0 1 = cc in omega arith)
+both-true : (a b : Bool) → (a && b) ≡ true → (a ≡ true) × (b ≡ true)
+both-true a b = and-eq-true-iff a b .0
 
 module _ (lo hi b : List ℕ) where
-  -- one word outside its range leaves the words not all in range
-  pub outside : (i n : ℕ) → i < n → within lo hi i (word b i) ≡ false → allWithin lo hi b n ≡ false
-  unfolding allWithin
-  outside i zero h e = absurd (omega arith)
-  outside i (suc n) h e = go (outside i n) (decLt i n)
-    where
-      never : (t : Bool) → both t false ≡ false
-      never true = refl
-      never false = refl
-
-      go : (i < n → within lo hi i (word b i) ≡ false → allWithin lo hi b n ≡ false) → Dec (i < n)
-          → both (allWithin lo hi b n) (within lo hi n (word b n)) ≡ false
-      go below (yes l) = ap (λ (t : Bool). both t (within lo hi n (word b n))) (below l e)
-      go below (no l) = let q : i ≡ n = omega arith in ap (λ (t : Bool). both (allWithin lo hi b n) t) (rw q at e) ∙ never (allWithin lo hi b n)
-
-  -- the next word in range too
-  pub one-more : (n : ℕ) → allWithin lo hi b n ≡ true → within lo hi n (word b n) ≡ true → allWithin lo hi b (suc n) ≡ true
-  unfolding allWithin
-  one-more n p q = ap (λ (t : Bool). both t (within lo hi n (word b n))) p ∙ q
-
   pub in-each : (n i : ℕ) → allWithin lo hi b n ≡ true → i < n → within lo hi i (word b i) ≡ true
   unfolding allWithin
   in-each zero i e h = absurd (omega arith)
-  in-each (suc n) i e h = go (in-each n i (both-left _ _ e)) (decLt i n)
+  in-each (suc n) i e h = go (in-each n i (both-true _ _ e .0)) (decLt i n)
     where
       go : (i < n → within lo hi i (word b i) ≡ true) → Dec (i < n) → within lo hi i (word b i) ≡ true
       go below (yes l) = below l
-      go below (no l) = let q : n ≡ i = omega arith in rw q at (both-right (allWithin lo hi b n) _ e)
+      go below (no l) = let q : n ≡ i = omega arith in rw q at (both-true (allWithin lo hi b n) _ e .1)
 
   pub each-in : (n : ℕ) → ((i : ℕ) → i < n → within lo hi i (word b i) ≡ true) → allWithin lo hi b n ≡ true
   unfolding allWithin
   each-in zero h = refl
-  each-in (suc n) h = ap₂ both (each-in n (λ i l. h i (omega arith))) (h n (omega arith))
+  each-in (suc n) h = ap₂ _&&_ (each-in n (λ i l. h i (omega arith))) (h n (omega arith))
 
 -- a number between the least and the greatest is within the tables, and the other way round
 pub is-within : (lo hi : List ℕ) (i v : ℕ) → getD lo i 0 ≤ v → v ≤ getD hi i 0 → within lo hi i v ≡ true
-is-within lo hi i v l u = ap₂ both (le-leb (getD lo i 0) v l) (le-leb v (getD hi i 0) u)
+is-within lo hi i v l u = ap₂ _&&_ (le-leb (getD lo i 0) v l) (le-leb v (getD hi i 0) u)
 
 pub no-less : (lo hi : List ℕ) (i v : ℕ) → within lo hi i v ≡ true → getD lo i 0 ≤ v
-no-less lo hi i v e = leb-true (getD lo i 0) v (both-left _ _ e)
+no-less lo hi i v e = leb-true (getD lo i 0) v (both-true _ _ e .0)
 
 pub no-more : (lo hi : List ℕ) (i v : ℕ) → within lo hi i v ≡ true → v ≤ getD hi i 0
-no-more lo hi i v e = leb-true v (getD hi i 0) (both-right (leb (getD lo i 0) v) _ e)
+no-more lo hi i v e = leb-true v (getD hi i 0) (both-true (leb (getD lo i 0) v) _ e .1)
 
 -- ---- a sound block
 
-pub outside-unsound : (b : List ℕ) (i : ℕ) → i < ranged → inRange i (word b i) ≡ false → sound b ≡ false
+-- once every word is tested, the receive level decides where all are in range
+pub decides : (b : List ℕ) (n : ℕ) (t : Bool) → n ≡ ranged → t ≡ allWithin leasts greatests b n → sound b ≡ (t && leb (word b receiveLevel) (word b receiveSize))
 unfolding sound
-outside-unsound b i h e = ap (λ (t : Bool). both t (leb (word b receiveLevel) (word b receiveSize))) (outside leasts greatests b i ranged h e)
-
--- with every word in range, the receive level decides
-pub all-in : (b : List ℕ) (n : ℕ) → n ≡ ranged → allWithin leasts greatests b n ≡ true → sound b ≡ leb (word b receiveLevel) (word b receiveSize)
-unfolding sound
-all-in b n e p = ap (λ (t : Bool). both t (leb (word b receiveLevel) (word b receiveSize))) (rw e at p)
+decides b n t e p = ap (λ (s : Bool). s && leb (word b receiveLevel) (word b receiveSize)) (sym (rw e at p))
 
 -- ---- a sound block, word by word
 
@@ -90,12 +61,12 @@ in-range i v l u = is-within leasts greatests i v l u
 -- a block whose words are in their ranges, one by one, is usable
 pub usable-words : {b : List ℕ} → Whole b → ((i : ℕ) → i < ranged → inRange i (word b i) ≡ true) → word b receiveLevel ≤ word b receiveSize → Usable b
 unfolding sound
-usable-words {b} w h l = record { whole = w; sound = ap₂ both (each-in leasts greatests b ranged h) (le-leb (word b receiveLevel) (word b receiveSize) l) }
+usable-words {b} w h l = record { whole = w; sound = ap₂ _&&_ (each-in leasts greatests b ranged h) (le-leb (word b receiveLevel) (word b receiveSize) l) }
 
 module _ {b : List ℕ} (u : Usable b) where
   in-all : allWithin leasts greatests b ranged ≡ true
   unfolding sound
-  in-all = both-left _ _ (u .sound)
+  in-all = both-true _ _ (u .sound) .0
 
   pub word-in : (i : ℕ) → i < ranged → inRange i (word b i) ≡ true
   word-in i h = in-each leasts greatests b ranged i in-all h
@@ -103,7 +74,7 @@ module _ {b : List ℕ} (u : Usable b) where
   -- "receive level 0 to size"
   pub level-in-size : word b receiveLevel ≤ word b receiveSize
   unfolding sound
-  level-in-size = leb-true (word b receiveLevel) (word b receiveSize) (both-right (allWithin leasts greatests b ranged) _ (u .sound))
+  level-in-size = leb-true (word b receiveLevel) (word b receiveSize) (both-true (allWithin leasts greatests b ranged) _ (u .sound) .1)
 
   -- a word with a range is no less than its least value and no more than its greatest
   pub at-least : (i : ℕ) → i < ranged → getD leasts i 0 ≤ word b i

@@ -2,7 +2,7 @@
 use Prim.Native.Nat.{ℕ, zero, suc}
 use mathlib.Core.Path.{_≡_}
 use mathlib.Core.List.{List, [], _∷_}
-use mathlib.Core.Bool.{Bool, true, false}
+use mathlib.Core.Bool.{Bool, true, _&&_}
 use lib.Dec.{leb}
 use lib.ListN.{getD}
 use Rattle.word.specs.Gap.{least, greatest}
@@ -24,18 +24,14 @@ greatests =
     ∷ 2 ∷ 255 ∷ 1
     ∷ 127 ∷ 127 ∷ 127 ∷ []
 
-abbrev pub both : Bool → Bool → Bool
-both true t = t
-both false t = false
-
 -- whether x is between the least and the greatest value that two tables have for word i
 abbrev pub within : List ℕ → List ℕ → ℕ → ℕ → Bool
-within lo hi i x = both (leb (getD lo i 0) x) (leb x (getD hi i 0))
+within lo hi i x = leb (getD lo i 0) x && leb x (getD hi i 0)
 
 -- whether each of the first n words is
 unfoldable pub allWithin : List ℕ → List ℕ → List ℕ → ℕ → Bool
 allWithin lo hi b zero = true
-allWithin lo hi b (suc n) = both (allWithin lo hi b n) (within lo hi n (word b n))
+allWithin lo hi b (suc n) = allWithin lo hi b n && within lo hi n (word b n)
 
 -- whether x is in the range of a block's word i: "Arguments have the same ranges"
 abbrev pub inRange : ℕ → ℕ → Bool
@@ -43,7 +39,7 @@ inRange i x = within leasts greatests i x
 
 -- "a stored number .. of the addressed channel is outside its range": none is; and "receive level 0 to size"
 unfoldable pub sound : List ℕ → Bool
-sound b = both (allWithin leasts greatests b ranged) (leb (word b receiveLevel) (word b receiveSize))
+sound b = allWithin leasts greatests b ranged && leb (word b receiveLevel) (word b receiveSize)
 
 -- what the calls on a block may take for granted: its words are there, and it is sound
 pub record Usable (b : List ℕ) : Type 0 where

@@ -63,32 +63,28 @@ pub fn in_range(at: usize, value: u32) -> bool
     requires { ⌜ at < ranged ⌝ }
     ensures { λ r. ⌜ r ≡ inRange at value ⌝ }
 {
-    if LEAST[at] <= value {
-        return value <= GREATEST[at];
-    }
-    false
+    (LEAST[at] <= value) & (value <= GREATEST[at])
 }
 
-// Whether every stored number of a block is in its range. The settings and the other words have a loop each: the compiler unrolls loops of
-// that length, and the table's values become constants.
+// Whether every stored number of a block is in its range. Every word is tested, with no branch between them, and the settings and the other
+// words have a loop each: the compiler unrolls loops of that length, the table's values become constants, and words with the same range are
+// tested together.
 pub fn is_sound(block: &[u32]) -> bool
     requires { ⌜ Whole (now block) ⌝ }
     ensures { λ r. ⌜ r ≡ sound (now (block .entry)) ⌝ }
 {
+    let mut sound = true;
     let mut at = 0;
     while at < SETTINGS {
-        if in_range(at, block[at]) {
-            at += 1;
-        } else {
-            return false;
-        }
+        sound = sound & in_range(at, block[at]);
+        at += 1;
     }
     while at < RANGED {
-        if in_range(at, block[at]) {
-            at += 1;
-        } else {
-            return false;
-        }
+        sound = sound & in_range(at, block[at]);
+        at += 1;
     }
-    block[RECEIVE_LEVEL] <= block[RECEIVE_SIZE]
+    if sound {
+        return block[RECEIVE_LEVEL] <= block[RECEIVE_SIZE];
+    }
+    false
 }

@@ -1,11 +1,11 @@
 -- When a module's memory is refused, and by which number (paper 01, "Memory and answer numbers", rows 1 to 3).
 use Prim.Native.Nat.{ℕ, zero, suc}
 use mathlib.Core.List.{List, [], _∷_}
-use mathlib.Core.Bool.{Bool, true, cond}
+use mathlib.Core.Bool.{Bool, true, cond, _&&_}
 use lib.Dec.{eqb, ltb}
 use lib.ListN.{length}
 use Rattle.block.specs.Layout.{word}
-use Rattle.block.specs.Ranges.{both, allWithin, sound}
+use Rattle.block.specs.Ranges.{allWithin, sound}
 use Rattle.frame.specs.Layout.{count, moduleWords, most, need, block}
 
 -- "1 short: memory is below the module part, or below the need of its stored channel count where that is 1 to 12";
@@ -52,7 +52,7 @@ addressRefusal m ch = channelOf (partRefusal m) (word m count) ch (sound (block 
 -- whether the first n channels are sound
 unfoldable pub soundTo : List ℕ → ℕ → Bool
 soundTo m zero = true
-soundTo m (suc n) = both (soundTo m n) (sound (block m (suc n)))
+soundTo m (suc n) = soundTo m n && sound (block m (suc n))
 
 -- "(module-wide calls, which name no channel: any channel)"
 unfoldable pub wideRefusal : List ℕ → ℕ

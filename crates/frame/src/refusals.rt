@@ -57,26 +57,21 @@ fn in_part(at: usize, value: u32) -> bool
     requires { ⌜ at < moduleWords ⌝ }
     ensures { λ r. ⌜ r ≡ within partLeasts partGreatests at value ⌝ }
 {
-    if LEAST[at] <= value {
-        return value <= GREATEST[at];
-    }
-    false
+    (LEAST[at] <= value) & (value <= GREATEST[at])
 }
 
-// Whether every word of the module part is in its range.
+// Whether every word of the module part is in its range. Every word is tested, with no branch between them.
 fn is_part_sound(mem: &[u32]) -> bool
     requires { ⌜ moduleWords ≤ length (now mem) ⌝ }
     ensures { λ r. ⌜ r ≡ partSound (now (mem .entry)) ⌝ }
 {
+    let mut sound = true;
     let mut at = 0;
     while at < MODULE_WORDS {
-        if in_part(at, mem[at]) {
-            at += 1;
-        } else {
-            return false;
-        }
+        sound = sound & in_part(at, mem[at]);
+        at += 1;
     }
-    true
+    sound
 }
 
 // The refusal of memory that is short or whose module part is unsound.

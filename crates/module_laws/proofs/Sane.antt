@@ -1,8 +1,8 @@
 -- A sane memory is never refused as short or unsound.
 -- Assumes nothing.
 use Prim.Native.Nat.{ℕ, zero, suc, _≤_}
-use mathlib.Core.Path.{_≡_, refl}
-use mathlib.Core.Bool.{Bool, true}
+use mathlib.Core.Path.{_≡_, refl, ap₂}
+use mathlib.Core.Bool.{Bool, true, _&&_}
 use mathlib.Core.List.{List}
 use native.Mathlib.Omega.{arith}
 use borrow.Author.Tests.{eq-eqb, le-ltb}
@@ -10,7 +10,6 @@ use lib.ListN.{length}
 use Rattle.block.specs.Layout.{word}
 use Rattle.frame.specs.Layout.{count, moduleWords, most, need, Framed}
 use Rattle.frame.specs.Refusals.{frameOf, frameRefusal, partRefusal, channelOf, addressRefusal, soundTo, wideRefusal}
-use Rattle.wide.proofs.Sound.{one-more}
 use Rattle.module_laws.specs.Sane.{Sane}
 
 not-short : (n k : ℕ) → Framed n k → frameOf n k ≡ 0
@@ -34,7 +33,7 @@ module _ {m : List ℕ} (s : Sane m) where
   all-sound : (n : ℕ) → n ≤ word m count → soundTo m n ≡ true
   unfolding soundTo
   all-sound zero h = refl
-  all-sound (suc n) h = one-more m n (all-sound n (omega arith)) (s .usable (suc n) (omega arith) h .sound)
+  all-sound (suc n) h = ap₂ _&&_ (all-sound n (omega arith)) (s .usable (suc n) (omega arith) h .sound)
 
   pub sane-wide : wideRefusal m ≡ 0
   unfolding wideRefusal

@@ -1,4 +1,3 @@
-pub mod Sound
 pub mod Laws
 pub mod Stored
 pub mod Called

@@ -35,15 +35,13 @@ fn are_sound(mem: &[u32]) -> bool
     ensures { λ r. ⌜ r ≡ soundTo (now (mem .entry)) (word (now (mem .entry)) count) ⌝ }
 {
     let count = mem[COUNT];
+    let mut sound = true;
     let mut tested = 0;
     while tested < count {
-        if is_channel_sound(mem, tested + 1) {
-            tested += 1;
-        } else {
-            return false;
-        }
+        sound = sound & is_channel_sound(mem, tested + 1);
+        tested += 1;
     }
-    true
+    sound
 }
 
 // The refusal for what the memory holds.

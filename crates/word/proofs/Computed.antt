@@ -1,26 +1,22 @@
 -- A rule of every number below a bound, by one test that is computed at each of them.
 -- Assumes nothing.
 use mathlib.Core.Path.{_≡_, refl, subst}
-use mathlib.Core.Bool.{Bool, true, false}
+use mathlib.Core.Bool.{Bool, true, false, _&&_}
 use Prim.Native.Nat.{ℕ, zero, suc, _<_}
 use native.Mathlib.Decide.{decLt}
 use native.Mathlib.Omega.{arith}
 use lib.Dec.{T}
 
-abbrev pub both : Bool → Bool → Bool
-both true b = b
-both false b = false
-
 -- the test passes at each number below n
 abbrev pub every : (ℕ → Bool) → ℕ → Bool
 every test zero = true
-every test (suc n) = both (test n) (every test n)
+every test (suc n) = test n && every test n
 
-first : (a b : Bool) → T (both a b) → T a
+first : (a b : Bool) → T (a && b) → T a
 first true b t = tt
 first false b t = t
 
-rest : (a b : Bool) → T (both a b) → T b
+rest : (a b : Bool) → T (a && b) → T b
 rest true b t = t
 rest false b t = absurd t
 

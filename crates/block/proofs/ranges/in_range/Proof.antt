@@ -1,6 +1,6 @@
--- `block::ranges::in_range` meets its contract: each branch is a case of the definition.
+-- `block::ranges::in_range` meets its contract: it is the definition, with the tables in the code.
 -- Assumes nothing.
-use Rattle.word.proofs.Branches.{branches}
+use mathlib.Core.Path.{refl}
 use Rattle.block.specs.Ranges.{leasts, greatests}
 use borrow.Author.Needs.{needs}
 use Rattle.block.proofs.ranges.in_range.Statement.{statement}
@@ -8,11 +8,7 @@ use Rattle.block.proofs.ranges.in_range.Tie as tie
 
 returns : tie.Need-returns
 unfolding leasts greatests
-returns c = search branches
-
-returns-2 : tie.Need-returns-2
-unfolding leasts greatests
-returns-2 c = search branches
+returns c = refl
 
 pub in-range-spec : {M : Type 1} → statement M
-in-range-spec = tie.close (tie.spec (search needs) (search needs) (search needs) (search needs) returns returns-2)
+in-range-spec = tie.close (tie.spec (search needs) (search needs) (search needs) (search needs) returns)

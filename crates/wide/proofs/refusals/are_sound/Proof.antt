@@ -1,39 +1,36 @@
--- `wide::refusals::are_sound` meets its contract: the channels before the index are sound.
+-- `wide::refusals::are_sound` meets its contract: what is told so far is told of the channels up to the number tested.
 -- Assumes nothing.
 use Rattle.block.specs.Layout.{word}
 use Rattle.frame.specs.Layout.{count}
 use borrow.Author.Needs.{needs}
 use Prim.Native.Nat.{_≤_, _-_}
-use mathlib.Core.Path.{_≡_, refl, sym, _∙_}
-use mathlib.Core.Bool.{true}
+use mathlib.Core.Path.{_≡_, refl, ap₂}
+use mathlib.Core.Bool.{_&&_}
 use native.Mathlib.Numerals.{add-one}
 use native.Mathlib.Omega.{arith}
 use Rattle.frame.specs.Refusals.{soundTo}
-use Rattle.wide.proofs.Sound.{one-more, unsound}
 use Rattle.wide.proofs.refusals.are_sound.Statement.{statement}
 use Rattle.wide.proofs.refusals.are_sound.Tie as tie
 
 abbrev Inv-loop : tie.InvT-loop
-Inv-loop mem count tested₀ tested = (tested ≤ count) × (soundTo mem tested ≡ true)
+Inv-loop mem count sound₀ tested₀ sound tested = (tested ≤ count) × (sound ≡ soundTo mem tested)
 
 abbrev μ-loop : tie.MeasureT-loop
-μ-loop mem count tested₀ tested = count - tested
+μ-loop mem count sound₀ tested₀ sound tested = count - tested
 
 loop-holds : tie.Need-loop-holds Inv-loop μ-loop
 unfolding soundTo
 loop-holds c = (omega arith, refl)
 
 loop-again : tie.Need-loop-again Inv-loop μ-loop
-loop-again c = (search needs, rw add-one (one-more _ _ (c .before .before .before .loop .inv .1) (sym (rw add-one at (c .before .is-channel-sound .ensures)) ∙ c .if1 .taken)))
+unfolding soundTo
+loop-again c = (search needs, rw add-one (ap₂ _&&_ (c .before .before .loop .inv .1) (rw add-one at (c .is-channel-sound .ensures))))
 
 returns : tie.Need-returns Inv-loop μ-loop
-returns c = sym (unsound _ (c .before .before .before .loop .tested) _ (search needs) (sym (rw add-one at (c .before .is-channel-sound .ensures)) ∙ c .if1 .left))
-
-returns-2 : tie.Need-returns-2 Inv-loop μ-loop
-returns-2 c = let e : c .before .loop .tested ≡ word (c .before .before .before .before .args .mem .now) count = omega arith in sym (rw e at (c .before .loop .inv .1))
+returns c = let e : c .before .loop .tested ≡ word (c .before .before .before .before .args .mem .now) count = omega arith in rw e at (c .before .loop .inv .1)
 
 pub are-sound-spec : {M : Type 1} → statement M
 are-sound-spec =
     tie.close
-    (tie.spec Inv-loop μ-loop (search needs) loop-holds (search needs) (λ c κs. search needs) (search needs) (search needs) loop-again returns
-    returns-2)
+    (tie.spec Inv-loop μ-loop (search needs) loop-holds (search needs) (λ c κs. search needs) (search needs) (search needs) loop-again
+    returns)
