@@ -1,6 +1,5 @@
 pub mod Words
 pub mod Sound
 pub mod Bits
-pub mod Filled
 pub mod Keeps
 pub mod Fifos

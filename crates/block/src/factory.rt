@@ -12,9 +12,8 @@ use crate::layout::STAMPS;
 use crate::layout::TRANSMIT_MODE;
 use crate::layout::TRANSMITTER;
 ghost use mathlib.Core.Path.{_≡_};
-ghost use lib.ListN.{length, replicate};
-ghost use Rattle.block.specs.Layout.{Whole, blockWords};
-ghost use Rattle.block.specs.Factory.{settingsToFactory, factoryOf};
+ghost use Rattle.block.specs.Layout.{Whole};
+ghost use Rattle.block.specs.Factory.{settingsToFactory};
 
 // Puts the settings back to their factory values.
 pub fn reset_settings(block: &mut [u32])
@@ -33,24 +32,4 @@ pub fn reset_settings(block: &mut [u32])
     block[ALMOST_FULL] = 128;
     block[ALMOST_EMPTY] = 32;
     block[RATE] = word::Gap::LEAST;
-}
-
-// Fills words with zeros.
-fn zero(words: &mut [u32])
-    ensures { λ r. ⌜ now (words .exit) ≡ replicate (length (now (words .entry))) 0 ⌝ }
-{
-    let mut at = 0;
-    while at < words.len() {
-        words[at] = 0;
-        at += 1;
-    }
-}
-
-// Fills a block as power-up leaves it.
-pub fn fill(block: &mut [u32])
-    requires { ⌜ Whole (now block) ⌝ }
-    ensures { λ r. ⌜ now (block .exit) ≡ factoryOf blockWords ⌝ }
-{
-    zero(block);
-    reset_settings(block);
 }

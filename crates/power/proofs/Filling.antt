@@ -1,16 +1,17 @@
--- The memory while power-up fills it: the blocks of the first channels, then the module part.
+-- The memory while power-up fills it: zeros in all blocks, the settings of the first channels, then the module part.
 -- Assumes nothing.
-use Prim.Native.Nat.{ℕ, zero, suc, _+_, _*_, _≤_}
-use mathlib.Core.Path.{_≡_, refl, sym, ap, _∙_}
+use Prim.Native.Nat.{ℕ, zero, suc, _+_, _*_, _-_, _≤_, _<_}
+use mathlib.Core.Path.{_≡_, refl, sym, ap, ap₂, _∙_}
 use mathlib.Core.List.{List, _++_, append-assoc}
 use native.Mathlib.Numerals.{add-one}
 use native.Mathlib.Omega.{arith}
-use lib.ListN.{length, take, drop, length-append, take-append-drop, length-replicate}
-use lib.Seq.{drop-at, drop-drop, length-take-le}
+use lib.ListN.{length, take, drop, replicate, length-append, length-replicate, replicate-append-replicate}
+use lib.Seq.{take-at, drop-at, length-take-le, sets-eq}
+use borrow.Rule.Slice.PartMut.{putMid, postOf, post-is, mid-len, take-put, drop-put}
 use Rattle.block.specs.Layout.{settings, blockWords}
-use Rattle.block.specs.Factory.{factoryOf}
-use Rattle.frame.specs.Layout.{moduleWords, need, base, withBlock}
-use Rattle.frame.proofs.Parts.{splice, splice-back}
+use Rattle.block.specs.Factory.{factorySettings, factoryOf, settingsToFactory}
+use Rattle.frame.specs.Layout.{moduleWords, need, base, block, withBlock}
+use Rattle.frame.proofs.Parts.{part, splice, part-back, splice-back}
 use Rattle.power.specs.Power.{repeated, factoryPart, factoryBlocks, powered}
 
 pub repeated-length : (n w : ℕ) (f : List ℕ) → length f ≡ w → length (repeated n f) ≡ n * w
@@ -27,40 +28,111 @@ factory-of n h = simp length-replicate (omega arith)
 pub factory-length : length (factoryOf blockWords) ≡ blockWords
 factory-length = factory-of blockWords (omega arith)
 
--- memory with n blocks f filled
-abbrev pub filledTo : ℕ → List ℕ → List ℕ → List ℕ
-filledTo n f m = take moduleWords m ++ (repeated n f ++ drop (need n) m)
+-- ---- zeros
 
--- one more part f behind q
-grow : (at a w z : ℕ) (f p q m : List ℕ) → at ≡ length p + length q → z ≡ a + w
-    → splice at w f (p ++ (q ++ drop a m)) ≡ p ++ ((q ++ f) ++ drop z m)
-grow at a w z f p q m e h =
-    let next : drop w (drop a m) ≡ drop z m = drop-drop w a m ∙ ap (λ (k : ℕ). drop k m) (sym h) in
-    splice-back at (length q) w f p (q ++ drop a m) e
-    ∙ ap (λ (t : List ℕ). p ++ t)
-    (splice-back (length q) 0 w f q (drop a m) (omega arith) ∙ ap (λ (t : List ℕ). q ++ (f ++ t)) next ∙ sym (append-assoc q f (drop z m)))
+-- zeros without their first n
+drop-zeros : (n m : ℕ) → n ≤ m → drop n (replicate {A = ℕ} m 0) ≡ replicate (m - n) 0
+drop-zeros n m h =
+    let e : m ≡ n + (m - n) = omega arith in
+    ap (λ (k : ℕ). drop n (replicate k 0)) e ∙ ap (drop n) (sym (replicate-append-replicate n (m - n) 0))
+    ∙ drop-at (replicate n 0) (replicate (m - n) 0) n (length-replicate n 0)
+
+-- zeros with the factory settings stored first are the factory block
+filled-of : (n : ℕ) → settings ≤ n → settingsToFactory (replicate n 0) ≡ factoryOf n
+filled-of n h =
+    sets-eq factorySettings (replicate n 0) 0 (rw length-replicate (omega arith))
+    ∙ ap (λ (l : List ℕ). factorySettings ++ l) (drop-zeros settings n h)
+
+-- ---- n parts f behind p, then z zeros, then r
+
+abbrev laid : ℕ → ℕ → List ℕ → List ℕ → List ℕ → List ℕ
+laid n z f p r = p ++ (repeated n f ++ (replicate z 0 ++ r))
 
 repeated-next : (n : ℕ) (f : List ℕ) → repeated n f ++ f ≡ repeated (n + 1) f
 unfolding repeated
 repeated-next n f = rw add-one refl
 
--- none filled, and the next one filled
-pub filled-none : (f m : List ℕ) → m ≡ filledTo 0 f m
-unfolding repeated
-filled-none f m = sym (take-append-drop moduleWords m)
+-- the next w zeros, and f in their place
+module _ (at n w z : ℕ) (f p r : List ℕ) (long : length f ≡ w) (here : at ≡ length p + n * w) (room : w ≤ z) where
+  behind : at ≡ length p + (length (repeated n f) + 0)
+  behind = let q : length (repeated n f) ≡ n * w = repeated-length n w f long in omega arith
 
-pub filled-next : (n : ℕ) (f m x y : List ℕ) → length f ≡ blockWords → need (n + 1) ≤ length m → x ≡ filledTo n f m → y ≡ withBlock x (n + 1) f
-    → y ≡ filledTo (n + 1) f m
-unfolding withBlock
-filled-next n f m x y long h e g =
+  split : replicate z 0 ++ r ≡ replicate w 0 ++ (replicate (z - w) 0 ++ r)
+  split =
+      let e : z ≡ w + (z - w) = omega arith in
+      ap (λ (k : ℕ). replicate k 0 ++ r) e ∙ ap (λ (l : List ℕ). l ++ r) (sym (replicate-append-replicate w (z - w) 0))
+      ∙ append-assoc (replicate w 0) (replicate (z - w) 0) r
+
+  next-zeros : part at w (laid n z f p r) ≡ replicate w 0
+  next-zeros =
+      part-back at (length (repeated n f) + 0) w p (repeated n f ++ (replicate z 0 ++ r)) behind
+      ∙ part-back (length (repeated n f) + 0) 0 w (repeated n f) (replicate z 0 ++ r) refl
+      ∙ ap (take w) split ∙ take-at (replicate w 0) (replicate (z - w) 0 ++ r) w (length-replicate w 0)
+
+  next-laid : splice at w f (laid n z f p r) ≡ laid (n + 1) (z - w) f p r
+  next-laid =
+      splice-back at (length (repeated n f) + 0) w f p (repeated n f ++ (replicate z 0 ++ r)) behind
+      ∙ ap (λ (t : List ℕ). p ++ t)
+      (splice-back (length (repeated n f) + 0) 0 w f (repeated n f) (replicate z 0 ++ r) refl
+      ∙ ap (λ (t : List ℕ). repeated n f ++ (f ++ drop w t)) split
+      ∙ ap (λ (t : List ℕ). repeated n f ++ (f ++ t)) (drop-at (replicate w 0) (replicate (z - w) 0 ++ r) w (length-replicate w 0))
+      ∙ sym (append-assoc (repeated n f) f (replicate (z - w) 0 ++ r))
+      ∙ ap (λ (t : List ℕ). t ++ (replicate (z - w) 0 ++ r)) (repeated-next n f))
+
+-- ---- memory of k channels while the blocks of the first n are filled and the others are zeros
+
+abbrev pub filledTo : ℕ → ℕ → List ℕ → List ℕ
+filledTo n k m = laid n ((k - n) * blockWords) (factoryOf blockWords) (take moduleWords m) (drop (need k) m)
+
+-- the same three parts
+around : {p p′ q q′ r r′ : List ℕ} → p ≡ p′ → q ≡ q′ → r ≡ r′ → p ++ (q ++ r) ≡ p′ ++ (q′ ++ r′)
+around a b c = ap₂ _++_ a (ap₂ _++_ b c)
+
+-- memory x is memory m with zeros in the blocks of k channels
+pub record Zeroed (k : ℕ) (m x : List ℕ) : Type 0 where
+  pub front : take moduleWords x ≡ take moduleWords m
+  pub zeros : x ≡ filledTo 0 k x
+  pub back : drop (need k) x ≡ drop (need k) m
+
+-- as a part up to e, lent to be zeroed, comes back
+pub zeroed : (k e : ℕ) (m b : List ℕ) → need k ≤ length m → e ≡ need k → b ≡ replicate (length (part moduleWords (e - moduleWords) m)) 0
+    → Zeroed k m (putMid moduleWords (e - moduleWords) m b)
+unfolding repeated
+zeroed k e m b h q z =
+    let x : List ℕ = putMid moduleWords (e - moduleWords) m b in
+    let n : length (part moduleWords (e - moduleWords) m) ≡ e - moduleWords = mid-len moduleWords e m (omega arith) in
+    let s : b ≡ replicate (e - moduleWords) 0 = z ∙ ap (λ (i : ℕ). replicate i 0) n in
+    let long : length b ≡ e - moduleWords = ap length s ∙ length-replicate (e - moduleWords) 0 in
+    let words : e - moduleWords ≡ (k - 0) * blockWords = omega arith in
+    let front : take moduleWords x ≡ take moduleWords m = take-put moduleWords (e - moduleWords) m b (omega arith) in
+    let back : drop e x ≡ drop e m = drop-put moduleWords e m b (omega arith) (omega arith) long in
+    let rest : postOf moduleWords (e - moduleWords) m ≡ drop (need k) x = post-is moduleWords e m (omega arith) ∙ sym back ∙ ap (λ (i : ℕ). drop i x) q in
+    record { front = front; zeros = around {q′ = replicate ((k - 0) * blockWords) 0} (sym front) (s ∙ ap (λ (i : ℕ). replicate i 0) words) rest; back = rw (← q) back }
+
+-- the next block filled, and all of them
+pub filled-next : (n k : ℕ) (m x y : List ℕ) → n < k → need k ≤ length x → length x ≡ length m → x ≡ filledTo n k m
+    → y ≡ withBlock x (n + 1) (settingsToFactory (block x (n + 1))) → y ≡ filledTo (n + 1) k m
+unfolding block withBlock
+filled-next n k m x y l h same e g =
     let p : length (take moduleWords m) ≡ moduleWords = length-take-le moduleWords m (omega arith) in
-    let q : length (repeated n f) ≡ n * blockWords = repeated-length n blockWords f long in
-    g ∙ ap (λ (t : List ℕ). withBlock t (n + 1) f) e
-    ∙ grow (base (n + 1)) (need n) blockWords (need (n + 1)) f (take moduleWords m) (repeated n f) m (omega arith) (omega arith)
-    ∙ ap (λ (t : List ℕ). take moduleWords m ++ (t ++ drop (need (n + 1)) m)) (repeated-next n f)
+    let f : List ℕ = factoryOf blockWords in
+    let at : base (n + 1) ≡ length (take moduleWords m) + n * blockWords = omega arith in
+    let room : blockWords ≤ (k - n) * blockWords = omega arith in
+    let less : (k - n) * blockWords - blockWords ≡ (k - (n + 1)) * blockWords = omega arith in
+    let zeros = next-zeros (base (n + 1)) n blockWords ((k - n) * blockWords) f (take moduleWords m) (drop (need k) m) factory-length at room in
+    g ∙ ap (λ (t : List ℕ). splice (base (n + 1)) blockWords (settingsToFactory (part (base (n + 1)) blockWords t)) t) e
+    ∙ ap (λ (t : List ℕ). splice (base (n + 1)) blockWords t (filledTo n k m)) (ap settingsToFactory zeros ∙ filled-of blockWords (omega arith))
+    ∙ next-laid (base (n + 1)) n blockWords ((k - n) * blockWords) f (take moduleWords m) (drop (need k) m) factory-length at room
+    ∙ ap (λ (z : ℕ). laid (n + 1) z f (take moduleWords m) (drop (need k) m)) less
+
+pub filled-all : (n k : ℕ) (m z x : List ℕ) → n ≡ k → Zeroed k m z → x ≡ filledTo n k z → x ≡ take moduleWords m ++ (factoryBlocks k ++ drop (need k) m)
+filled-all n k m z x q s e =
+    let none : (k - k) * blockWords ≡ 0 = omega arith in
+    rw q at e ∙ ap (λ (n : ℕ). laid k n (factoryOf blockWords) (take moduleWords z) (drop (need k) z)) none
+    ∙ around {q = factoryBlocks k} (s .front) refl (s .back)
 
 -- the module part stored before the filled blocks
-pub filled-whole : (k : ℕ) (m x y : List ℕ) → need k ≤ length m → x ≡ filledTo k (factoryOf blockWords) m
+pub filled-whole : (k : ℕ) (m x y : List ℕ) → need k ≤ length m → x ≡ take moduleWords m ++ (factoryBlocks k ++ drop (need k) m)
     → y ≡ factoryPart k ++ drop moduleWords x → y ≡ powered k m
 unfolding powered
 filled-whole k m x y h e g =

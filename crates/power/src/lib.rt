@@ -11,10 +11,9 @@ use frame::layout::need;
 ghost use mathlib.Core.Path.{_≡_};
 ghost use mathlib.Core.List.{_++_};
 ghost use Prim.Native.Nat.{_≤_};
-ghost use lib.ListN.{length, take, drop};
-ghost use Rattle.block.specs.Layout.{blockWords};
-ghost use Rattle.block.specs.Factory.{factoryOf};
-ghost use Rattle.frame.specs.Layout.{moduleWords, need, withBlock};
+ghost use lib.ListN.{length, take, drop, replicate};
+ghost use Rattle.block.specs.Factory.{settingsToFactory};
+ghost use Rattle.frame.specs.Layout.{moduleWords, most, need, block, withBlock};
 ghost use Rattle.power.specs.Power.{factoryPart, factoryBlocks, powerRefusal, powerAfter};
 
 // The fault threshold at power-up.
@@ -43,25 +42,38 @@ pub fn fill_part(mem: &mut [u32], count: u32)
     mem[COUNTERS + 11] = 0;
 }
 
-// Fills a channel's block as power-up leaves it.
-fn fill_channel(mem: &mut [u32], channel: u32)
+// Fills words with zeros.
+fn zero(words: &mut [u32])
+    ensures { λ r. ⌜ now (words .exit) ≡ replicate (length (now (words .entry))) 0 ⌝ }
+{
+    let mut at = 0;
+    while at < words.len() {
+        words[at] = 0;
+        at += 1;
+    }
+}
+
+// Puts a channel's settings to their factory values.
+fn set_channel(mem: &mut [u32], channel: u32)
     requires { ⌜ (1 ≤ channel) × (need channel ≤ length (now mem)) ⌝ }
-    ensures { λ r. ⌜ now (mem .exit) ≡ withBlock (now (mem .entry)) channel (factoryOf blockWords) ⌝ }
+    ensures { λ r. ⌜ now (mem .exit) ≡ withBlock (now (mem .entry)) channel (settingsToFactory (block (now (mem .entry)) channel)) ⌝ }
 {
     let from = MODULE_WORDS + ((channel - 1) as usize) * WORDS;
     let to = from + WORDS;
-    block::factory::fill(&mut mem[from..to]);
+    block::factory::reset_settings(&mut mem[from..to]);
 }
 
-// Fills the blocks of the channels 1 to `count`.
+// Fills the blocks of the channels 1 to `count`: zeros in all of them at once, which is quicker than block by block, and then the settings.
 fn fill_channels(mem: &mut [u32], count: u32)
-    requires { ⌜ need count ≤ length (now mem) ⌝ }
+    requires { ⌜ (count ≤ most) × (need count ≤ length (now mem)) ⌝ }
     ensures { λ r. ⌜ now (mem .exit) ≡ take moduleWords (now (mem .entry)) ++ (factoryBlocks count ++ drop (need count) (now (mem .entry))) ⌝ }
 {
+    let to = need(count);
+    zero(&mut mem[MODULE_WORDS..to]);
     let mut channel = 0;
     while channel < count {
         channel += 1;
-        fill_channel(mem, channel);
+        set_channel(mem, channel);
     }
 }
 

@@ -1,4 +1,4 @@
--- `block::factory::zero` meets its contract: the words before the index are zeros, the others as they were.
+-- `power::zero` meets its contract: the words before the index are zeros, the others as they were.
 -- Assumes nothing.
 use borrow.Author.Needs.{needs}
 use native.Mathlib.Omega.{arith}
@@ -8,8 +8,8 @@ use borrow.Author.Fill.{fill-none, fill-more}
 use Prim.Native.Nat.{_≤_, _<_, _-_}
 use mathlib.Core.List.{_++_, append-nil}
 use mathlib.Core.Path.{_≡_, refl, _∙_, ap}
-use Rattle.block.proofs.factory.zero.Statement.{statement}
-use Rattle.block.proofs.factory.zero.Tie as tie
+use Rattle.power.proofs.zero.Statement.{statement}
+use Rattle.power.proofs.zero.Tie as tie
 
 abbrev Inv-loop : tie.InvT-loop
 Inv-loop words₀ at₀ words at = (at ≤ length words₀) × (length words ≡ length words₀) × (words ≡ replicate at 0 ++ drop at words₀)
