@@ -103,7 +103,11 @@ module _ (r : Ring) where
       → held r b pos level ≡ oldest r b pos ∷ held r b (next (r .slots) pos) (level - 1)
   unfolding held
   take-oldest b pos zero h = absurd (omega arith)
-  take-oldest b pos (suc n) h = ap₂ _∷_ refl (rw (add-one, sub-one) (held-mod b _ _ n (sym (mod-mod (suc pos) (r .slots)))))
+  take-oldest b pos (suc n) h =
+      let behind : (pos + 1) % r .slots ≡ next (r .slots) pos % r .slots = sym (mod-mod (pos + 1) (r .slots)) in
+      ap₂ _∷_ refl
+      (held-mod b (suc pos) (next (r .slots) pos) n (ap (λ (i : ℕ). i % r .slots) (sym (add-one pos)) ∙ behind)
+      ∙ ap (held r b (next (r .slots) pos)) (sym (sub-one (suc n))))
 
   -- where a ring may hold no more than the `size` entries that it holds, the oldest is overwritten: the new one is stored behind the newest,
   -- which is the oldest's very slot where size is the number of slots, and the position moves on
