@@ -3,7 +3,7 @@ use Prim.Native.Nat.{ℕ, suc, _+_, _-_, _≤_}
 use mathlib.Core.Path.{_≡_, refl, sym, ap, _∙_}
 use mathlib.Core.List.{List, [], _∷_, _++_}
 use native.Mathlib.Omega.{arith}
-use lib.ListN.{length, replicate, take, getD, length-append, length-replicate, replicate-append-replicate}
+use lib.ListN.{length, replicate, getD, length-append, length-replicate, replicate-append-replicate}
 use Rattle.schedule.specs.Output.{values}
 use Rattle.schedule.specs.declared.Output.{Output}
 use Rattle.schedule.specs.declared.Output.the-variants.{Quiet, FifoWord, Message, Null, Async, Reserved}
@@ -27,14 +27,6 @@ stepped (Message w) v e = rw e (refl, refl)
 stepped (Null g) v e = rw e (refl, refl)
 stepped (Async w g) v e = rw e (refl, refl)
 stepped (Reserved a) v e = rw e (refl, refl)
-
-take-front : (l r : List ℕ) → take (length l) (l ++ r) ≡ l
-take-front [] r = refl
-take-front (x ∷ l) r = ap {B = List ℕ} (λ t. x ∷ t) (take-front l r)
-
--- the first `count` words are the list
-pub listed : (n : Numbers) (l : List ℕ) → Lists n l → take (n .count) (n .words) ≡ l
-listed n l (c, w) = rw (c, w) (take-front l (replicate {A = ℕ} (8 - length l) 0))
 
 -- the count is at most the number of words
 pub within : (n : Numbers) (l : List ℕ) → Lists n l → n .count ≤ length (n .words)

@@ -2,16 +2,14 @@
 -- Assumes nothing.
 use mathlib.Core.Path.{_≡_, refl, ap, _∙_}
 use mathlib.Core.List.{List, []}
-use Prim.Native.Nat.{ℕ, _%_, _^_, _≤_, _<_}
+use Prim.Native.Nat.{ℕ, _%_, _^_, _<_}
 use native.Mathlib.Omega.{arith}
 use lib.ListN.{length, getD}
 use Rattle.word.specs.Parity.{asSent}
-use Rattle.ring.specs.Ring.{slots}
 use Rattle.ring.proofs.Laws.{length-held}
-use Rattle.block.specs.Layout.{word, parity, receiveLevel, transmitLevel}
-use Rattle.block.specs.Ranges.{greatests, Usable}
+use Rattle.block.specs.Layout.{word, parity, receiveLevel}
+use Rattle.block.specs.Ranges.{Usable}
 use Rattle.block.specs.Fifos.{Places, receivePlaces, transmitPlaces, fifo}
-use Rattle.block.proofs.Sound.{at-most}
 use Rattle.schedule.specs.Output.{isFifoWord}
 use Rattle.schedule.specs.declared.Output.the-variants.{FifoWord}
 use Rattle.receive.specs.Arrival.{arrival}
@@ -38,15 +36,6 @@ use Rattle.channel_laws.specs.Told.{Sent, receiveTold, transmitTold, Tol
 -- a FIFO holds as many entries as its level says
 level-held : (p : Places) (b : List ℕ) → length (fifo p b .held) ≡ word b (p .level)
 level-held p b = length-held (p .ring) b (word b (p .position)) (word b (p .level))
-
--- so never more than its slots
-pub receive-held-le : {b : List ℕ} → Usable b → length (fifo receivePlaces b .held) ≤ slots
-unfolding greatests
-receive-held-le {b} u = rw (level-held receivePlaces b) (at-most u receiveLevel (omega arith))
-
-pub transmit-held-le : {b : List ℕ} → Usable b → length (fifo transmitPlaces b .held) ≤ slots
-unfolding greatests
-transmit-held-le {b} u = rw (level-held transmitPlaces b) (at-most u transmitLevel (omega arith))
 
 receive-told : (k : ReceiveCall) {b : List ℕ} → Usable b → receiveCallRefusal k b ≡ 0 → receiveTold k (receiveAnswer k b) (fifo receivePlaces b)
 receive-told (Arrive w) {b} u e = λ o.

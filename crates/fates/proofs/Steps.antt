@@ -34,7 +34,8 @@ use Rattle.module_laws.proofs.Rolls.{rolls, reset-rolls, first-rolls}
 use Rattle.module_laws.proofs.OnChannel.{on-within, on-call, on-word, on-same, on-other, on-sane}
 use Rattle.module_laws.proofs.OnModule.{wide-sane, wide-count, wide-word, wide-kept}
 use Rattle.module_laws.proofs.Reset.{reset-sane, reset-word, reset-kept}
-use Rattle.module_laws.proofs.Lent.{Alike, Short, front, front-on, front-wide, front-reset, short-on, short-wide, short-reset, powered-word, powered-kept, powered-sane}
+use Rattle.power.proofs.Laws.{powered-word}
+use Rattle.module_laws.proofs.Lent.{Alike, Short, front, front-on, front-wide, front-reset, short-on, short-wide, short-reset, powered-kept, powered-sane}
 use Rattle.fates.specs.History.{Part, History, poweredUp, partAfter, acceptedStep, historyStep}
 use Rattle.fates.specs.Run.{lent}
 use Rattle.fates.specs.Agrees.{Agrees}
@@ -46,10 +47,10 @@ pub powers : (n : ℕ) (l r : List ℕ) → powerRefusal n (length l) ≡ 0 → 
 powers n l r e =
     record {
       sane = powered-sane n l r e;
-      count = powered-word n l r count (omega arith);
-      stamp = powered-word n l r stamp (omega arith);
-      resolution = powered-word n l r resolution (omega arith);
-      threshold = powered-word n l r threshold (omega arith);
+      count = powered-word n count l r (omega arith);
+      stamp = powered-word n stamp l r (omega arith);
+      resolution = powered-word n resolution l r (omega arith);
+      threshold = powered-word n threshold l r (omega arith);
       kept = λ ch p q. powered-kept n l r ch p q ∙ sym first-rolls;
     }
 

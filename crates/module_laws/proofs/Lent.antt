@@ -5,7 +5,7 @@ use mathlib.Core.Path.{_≡_, refl, sym, ap, _∙_, subst}
 use mathlib.Core.Bool.{Bool, true, false, cond}
 use mathlib.Core.List.{List, _++_, append-assoc}
 use native.Mathlib.Omega.{arith}
-use borrow.Author.Tests.{eqb-true, ne-eqb, ltb-false, le-ltb, lt-ltb}
+use borrow.Author.Tests.{eqb-true, ltb-false, le-ltb, lt-ltb}
 use lib.Dec.{eqb, ltb}
 use lib.ListN.{length, set, drop, length-set, length-append, List·getD-append}
 use lib.Seq.{set-append-left, drop-append-le}
@@ -26,7 +26,7 @@ use Rattle.frame.proofs.Parts.{part-front, splice-front}
 use Rattle.frame.proofs.Blocks.{Within, channel-room}
 use Rattle.frame.proofs.Each.{Own, each-length}
 use Rattle.power.specs.Power.{powerRefusal, factoryPart, powered}
-use Rattle.power.proofs.Laws.{power-framed, powered-length, powered-word-front, powered-block-front}
+use Rattle.power.proofs.Laws.{power-framed, powered-length, powered-word, powered-block}
 use Rattle.wide.specs.Refusals.{callRefusal}
 use Rattle.wide.specs.Rule.{ruledAll}
 use Rattle.wide.specs.OnModule.{wideAnswer, wideAfter}
@@ -39,7 +39,7 @@ use Rattle.reset.proofs.Laws.{reset-own}
 use Rattle.module.specs.OnChannel.{answerUnless, leaveUnless, onRefusal, counterAt, givenOf, acceptedAfter}
 use Rattle.module.specs.Perform.{answer, after}
 use Rattle.module.specs.declared.calls.Call.{Call}
-use Rattle.module.specs.declared.calls.Call.the-variants.{PowerUp, Reset, Wide, On}
+use Rattle.module.specs.declared.calls.Call.the-variants.{Reset, Wide, On}
 use Rattle.module_laws.specs.Sane.{Sane}
 use Rattle.module_laws.proofs.Sane.{sane-part, sane-wide}
 use Rattle.module_laws.proofs.Stores.{part-in}
@@ -274,26 +274,11 @@ module _ (l r : List ℕ) (s : Sane (l ++ r)) (less : length l < need (word (l +
   pub short-reset : Short Reset l
   short-reset = record { answers = rw memory-short refl; leaves = rw memory-short refl }
 
--- ---- a power-up goes by the number of lent words alone
+-- ---- the memory after a power-up, with the words that were not lent
 
-module _ (k : ℕ) (l : List ℕ) where
-  pub power-refused : (powerRefusal k (length l) ≡ 0 → ⊥) → (answer (PowerUp k) l ≡ Refused (powerRefusal k (length l))) × (after (PowerUp k) l ≡ l)
-  power-refused ne = rw (ne-eqb (powerRefusal k (length l)) 0 ne) (refl, refl)
-
-  module _ (e : powerRefusal k (length l) ≡ 0) where
-    pub power-done : answer (PowerUp k) l ≡ Done
-    power-done = rw e refl
-
-    pub power-leaves : after (PowerUp k) l ≡ powered k l
-    power-leaves = rw e refl
-
--- the memory after it, with the words that were not lent
 module _ (k : ℕ) (l r : List ℕ) where
-  pub powered-word : (i : ℕ) → i < moduleWords → word (powered k l ++ r) i ≡ word (factoryPart k) i
-  powered-word i h = powered-word-front k i l r h
-
   pub powered-kept : (ch : ℕ) → 1 ≤ ch → ch ≤ k → keptOf (block (powered k l ++ r) ch) ≡ keptFirst
-  powered-kept ch p q = ap keptOf (powered-block-front k ch l r p q) ∙ first-holds blockWords refl .is
+  powered-kept ch p q = ap keptOf (powered-block k ch l r p q) ∙ first-holds blockWords refl .is
 
   pub powered-sane : powerRefusal k (length l) ≡ 0 → Sane (powered k l ++ r)
   powered-sane e =
@@ -301,12 +286,12 @@ module _ (k : ℕ) (l r : List ℕ) where
         frame = rw channels (record { low = f .low; high = f .high; room = omega (arith, f .room, powered-length k l (f .room), length-append (powered k l) r) });
         part =
             each-in partLeasts partGreatests (powered k l ++ r) moduleWords
-            (λ i h. rw (powered-word i h) (factory-in k i (f .low) (f .high) h));
-        usable = λ ch p q. subst Usable (sym (powered-block-front k ch l r p (rw channels at q))) (first-holds blockWords refl .usable);
+            (λ i h. rw (powered-word k i l r h) (factory-in k i (f .low) (f .high) h));
+        usable = λ ch p q. subst Usable (sym (powered-block k ch l r p (rw channels at q))) (first-holds blockWords refl .usable);
       }
     where
       f : Framed (length l) k
       f = power-framed k (length l) e
 
       channels : word (powered k l ++ r) count ≡ k
-      channels = powered-word count (omega arith)
+      channels = powered-word k count l r (omega arith)

@@ -23,7 +23,7 @@ use Rattle.frame.specs.Layout.{count, counters, most, base, block}
 use Rattle.frame.specs.Counters.{top, sampled}
 use Rattle.frame.specs.Refusals.{partLeasts, partGreatests, addressRefusal}
 use Rattle.frame.proofs.Refused.{through}
-use Rattle.frame.proofs.Blocks.{Within, within-memory, block-set, with-length, with-word, block-same, block-other}
+use Rattle.frame.proofs.Blocks.{Within, within-memory, block-set, with-word, block-same, block-other}
 use Rattle.module.specs.OnChannel.{onRefusal, counterAt, counterAfter, givenOf, acceptedAfter}
 use Rattle.module_laws.specs.Sane.{Sane}
 use Rattle.module_laws.proofs.Stores.{inPart, part-in, store-sane, with-sane}
@@ -78,9 +78,6 @@ module _ (ch : ℕ) (k : ChannelCall) (m : List ℕ) (e : onRefusal ch k m ≡ 0
 
   room : (x : ℕ) → base ch + blockWords ≤ length (set m (counterAt ch) x)
   room x = rw length-set (on-within .room)
-
-  pub on-length : length (acceptedAfter ch k m) ≡ length m
-  on-length = with-length _ _ ch (usable-after .whole) (room _) ∙ length-set m (counterAt ch) _
 
   -- the words before the counters
   pub on-word : (i : ℕ) → i < counters → word (acceptedAfter ch k m) i ≡ word m i

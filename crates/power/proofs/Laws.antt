@@ -1,4 +1,4 @@
--- The laws of a powered memory: its length, the words of the module part, each channel's block, and the words beyond the need.
+-- The laws of a powered memory: its length, the words of the module part, and each channel's block.
 -- Assumes nothing.
 use Prim.Native.Nat.{ℕ, zero, suc, _+_, _*_, _-_, _≤_, _<_}
 use mathlib.Core.Path.{_≡_, refl, sym, ap, _∙_}
@@ -8,7 +8,7 @@ use native.Mathlib.Omega.{arith}
 use borrow.Author.Tests.{ltb-false}
 use lib.Dec.{ltb}
 use lib.ListN.{length, drop, getD, length-append, length-drop, List·getD-append}
-use lib.Seq.{take-at, drop-at}
+use lib.Seq.{take-at}
 use Rattle.block.specs.Layout.{word, blockWords}
 use Rattle.block.specs.Factory.{factoryOf}
 use Rattle.frame.specs.Layout.{moduleWords, most, need, base, block, Framed}
@@ -30,9 +30,6 @@ power-framed k n e =
 
 whole-length : (n : ℕ) (p q m : List ℕ) → n ≡ length p + length q → n ≤ length m → length (p ++ (q ++ drop n m)) ≡ length m
 whole-length n p q m e h = simp (length-append, length-drop) (omega arith)
-
-drop-both : (n : ℕ) (p q r : List ℕ) → n ≡ length p + length q → drop n (p ++ (q ++ r)) ≡ r
-drop-both n p q r e = ap (drop n) (sym (append-assoc p q r)) ∙ drop-at (p ++ q) r n (length-append p q ∙ sym e)
 
 -- one of the repeated parts
 repeated-part : (n ch w : ℕ) (f t : List ℕ) → length f ≡ w → 1 ≤ ch → ch ≤ n → part ((ch - 1) * w) w (repeated n f ++ t) ≡ f
@@ -64,30 +61,17 @@ pub powered-length : (k : ℕ) (m : List ℕ) → need k ≤ length m → length
 unfolding powered
 powered-length k m h = whole-length (need k) (factoryPart k) (factoryBlocks k) m (blocks-length k) h
 
--- "Words beyond the need are never touched"
-pub powered-rest : (k : ℕ) (m : List ℕ) → drop (need k) (powered k m) ≡ drop (need k) m
-unfolding powered
-powered-rest k m = drop-both (need k) (factoryPart k) (factoryBlocks k) (drop (need k) m) (blocks-length k)
-
--- the words of the module part, also where more words stand behind those that were lent
-pub powered-word : (k i : ℕ) (m : List ℕ) → i < moduleWords → word (powered k m) i ≡ getD (factoryPart k) i 0
-unfolding powered
-powered-word k i m h = List·getD-append (factoryPart k) (factoryBlocks k ++ drop (need k) m) 0 i h
-
-pub powered-word-front : (k i : ℕ) (l r : List ℕ) → i < moduleWords → word (powered k l ++ r) i ≡ getD (factoryPart k) i 0
-powered-word-front k i l r h =
+-- the words of the module part, where more words, r, may stand behind those that were lent
+pub powered-word : (k i : ℕ) (l r : List ℕ) → i < moduleWords → word (powered k l ++ r) i ≡ getD (factoryPart k) i 0
+powered-word k i l r h =
     ap (λ (m : List ℕ). word m i) (powered-more k l r) ∙ List·getD-append (factoryPart k) (factoryBlocks k ++ (drop (need k) l ++ r)) 0 i h
 
--- the channels' blocks, in the same two forms
+-- the channels' blocks, likewise
 block-at : (k ch : ℕ) (t : List ℕ) → 1 ≤ ch → ch ≤ k → block (factoryPart k ++ (factoryBlocks k ++ t)) ch ≡ factoryOf blockWords
 unfolding block
 block-at k ch t p q =
     part-back (base ch) ((ch - 1) * blockWords) blockWords (factoryPart k) (factoryBlocks k ++ t) refl
     ∙ repeated-part k ch blockWords (factoryOf blockWords) t factory-length p q
 
-pub powered-block : (k ch : ℕ) (m : List ℕ) → 1 ≤ ch → ch ≤ k → block (powered k m) ch ≡ factoryOf blockWords
-unfolding powered
-powered-block k ch m p q = block-at k ch (drop (need k) m) p q
-
-pub powered-block-front : (k ch : ℕ) (l r : List ℕ) → 1 ≤ ch → ch ≤ k → block (powered k l ++ r) ch ≡ factoryOf blockWords
-powered-block-front k ch l r p q = ap (λ (m : List ℕ). block m ch) (powered-more k l r) ∙ block-at k ch (drop (need k) l ++ r) p q
+pub powered-block : (k ch : ℕ) (l r : List ℕ) → 1 ≤ ch → ch ≤ k → block (powered k l ++ r) ch ≡ factoryOf blockWords
+powered-block k ch l r p q = ap (λ (m : List ℕ). block m ch) (powered-more k l r) ∙ block-at k ch (drop (need k) l ++ r) p q

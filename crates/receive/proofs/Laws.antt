@@ -25,7 +25,7 @@ use Rattle.block.proofs.Fifos.{Apart, receive-proper, store-apart, take-law, ap
 use Rattle.receive.specs.Arrival.{arrival}
 use Rattle.receive.specs.Entries.{stampOf, wordEntry, indexEntry, entryOf, mailboxAt, mailOf, mailed}
 use Rattle.receive.specs.Arrived.{overwriting, stored, arrived, errorSignal, signalled, arrivalSignal}
-use Rattle.receive.specs.Reading.{shown, readAnswer, readAfter, mailboxAfter}
+use Rattle.receive.specs.Reading.{shown, readAnswer, readAfter}
 use Rattle.receive.specs.Fates.{arrivalChange}
 use Rattle.receive.specs.declared.Arrival.{Arrival}
 use Rattle.receive.specs.declared.Arrival.the-variants.{Ignored, Filtered, Appended, Dropped, Overwriting}
@@ -275,18 +275,3 @@ read-overwritten b = search words
 pub read-answer : (b : List ℕ) → 0 < word b receiveLevel → readAnswer b ≡ shown (getD (fifo receivePlaces b .held) 0 [])
 read-answer b h =
     ap (λ (l : List (List ℕ)). shown (getD l 0 [])) (sym (take-oldest receiveRing b (word b receivePosition) (word b receiveLevel) h))
-
--- ---- a mailbox read
-
-pub mailbox-keeps : {b : List ℕ} → Usable b → (index : ℕ) → Usable (mailboxAfter index b)
-mailbox-keeps u index = usable-behind u (mailboxAt index) _ (omega arith)
-
-module _ (b : List ℕ) (index : ℕ) where
-  pub mailbox-leaves : Leaves b (mailboxAfter index b)
-  mailbox-leaves = store-leaves (mailboxAt index) _ (omega arith) (same-left b)
-
-  pub mailbox-fifo : fifo receivePlaces (mailboxAfter index b) ≡ fifo receivePlaces b
-  mailbox-fifo = store-apart receivePlaces b (mailboxAt index) _ (omega arith) (omega arith)
-
-  pub mailbox-overwritten : word (mailboxAfter index b) receiveOverwritten ≡ word b receiveOverwritten
-  mailbox-overwritten = getD-set-other b (mailboxAt index) receiveOverwritten _ 0 (omega arith)

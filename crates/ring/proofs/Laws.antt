@@ -127,13 +127,3 @@ module _ (r : Ring) where
   pub elsewhere-set : (b : List ℕ) (i x pos level : ℕ) → 0 < r .slots → (r .at ≤ i → i < end r → ⊥)
       → held r (set b i x) pos level ≡ held r b pos level
   elsewhere-set b i x pos level h o = elsewhere b _ pos level h (λ j l u. getD-set-other b i j x 0 (λ q. o (omega arith) (omega arith)))
-
-  pub elsewhere-sets : (b : List ℕ) (s : ℕ) (e : List ℕ) (pos level : ℕ) → 0 < r .slots → ((i : ℕ) → s ≤ i → i < s + length e → r .at ≤ i → i < end r → ⊥)
-      → held r (sets b s e) pos level ≡ held r b pos level
-  elsewhere-sets b s e pos level h o = elsewhere b _ pos level h (λ i l u. sets-other b s e i (λ l′ u′. o i l′ u′ l u))
-
--- an entry stored in another ring, `o`, leaves the entries of this one
-pub elsewhere-ring : (r o : Ring) (b c e : List ℕ) (k pos level : ℕ) → c ≡ sets b (slot o k) e → length e ≡ o .width → 0 < o .slots → 0 < r .slots
-    → ((i : ℕ) → o .at ≤ i → i < end o → r .at ≤ i → i < end r → ⊥) → held r c pos level ≡ held r b pos level
-elsewhere-ring r o b c e k pos level m w p q d =
-    rw m (elsewhere-sets r b _ e pos level q (λ i l u. d i (omega arith) (omega (arith, inside o k p))))
