@@ -280,7 +280,7 @@ static inline uint32_t nqabelihu_power_up(nqabelihu_memory memory, uint32_t coun
 }
 
 /* FIFOs cleared, async words dropped, transmitters idle, factory settings, stamp, fault counters and latches 0. Match sets, mailboxes,
- * both RAMs and the counts of fates stay. NQABELIHU_NO_CALL from a library that does not have it. */
+ * both RAMs and the counts of fates stay. */
 static inline uint32_t nqabelihu_module_reset(nqabelihu_memory memory)
 {
     return nqabelihu_do(memory, NQABELIHU_OP_MODULE_RESET, 0, 0, 0);

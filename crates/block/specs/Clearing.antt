@@ -2,6 +2,7 @@
 use Prim.Native.Nat.{ℕ, _+_, _%_, _^_}
 use mathlib.Core.List.{List}
 use lib.ListN.{set}
+use Rattle.schedule.specs.Codes.{idle}
 use Rattle.block.specs.Layout.{word, receiveLevel, receiveCleared, transmitLevel, transmitCleared, state, address, asyncMark}
 
 -- "Each is a 32-bit count that rolls over": a count with n more
@@ -17,10 +18,6 @@ receiveFifoCleared b = cleared receiveLevel receiveCleared b
 
 abbrev pub transmitFifoCleared : List ℕ → List ℕ
 transmitFifoCleared b = cleared transmitLevel transmitCleared b
-
--- "idle", the first of the states idle, running, paused
-abbrev pub idle : ℕ
-idle = 0
 
 -- "to idle, command 0"
 abbrev pub stopped : List ℕ → List ℕ

@@ -10,13 +10,6 @@ ghost use mathlib.Core.Path.{_≡_};
 ghost use Rattle.block.specs.Layout.{Whole};
 ghost use Rattle.block.specs.Clearing.{receiveFifoCleared, transmitFifoCleared, stopped, forgotten};
 
-// The transmitter's states.
-pub const IDLE: u32 = 0;
-
-pub const RUNNING: u32 = 1;
-
-pub const PAUSED: u32 = 2;
-
 // Clears the receive FIFO and counts what it held.
 pub fn clear_receive(block: &mut [u32])
     requires { ⌜ Whole (now block) ⌝ }
@@ -46,7 +39,7 @@ pub fn stop(block: &mut [u32])
     requires { ⌜ Whole (now block) ⌝ }
     ensures { λ r. ⌜ now (block .exit) ≡ stopped (now (block .entry)) ⌝ }
 {
-    block[STATE] = IDLE;
+    block[STATE] = schedule::IDLE;
     block[ADDRESS] = 0;
 }
 

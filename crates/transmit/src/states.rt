@@ -1,9 +1,9 @@
 // The transmitter's modes, and the calls that change its state.
-use block::clearing::IDLE;
-use block::clearing::PAUSED;
-use block::clearing::RUNNING;
 use block::layout::STATE;
 use block::layout::TRANSMIT_MODE;
+use schedule::IDLE;
+use schedule::PAUSED;
+use schedule::RUNNING;
 ghost use mathlib.Core.Path.{_≡_};
 ghost use Rattle.block.specs.Ranges.{Usable};
 ghost use Rattle.transmit.specs.States.{afterTrigger, afterPause};

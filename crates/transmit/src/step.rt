@@ -1,9 +1,6 @@
 // One step of the transmitter gives one output.
 use crate::states::IMMEDIATE;
 use crate::states::TRIGGERED;
-use block::clearing::IDLE;
-use block::clearing::PAUSED;
-use block::clearing::RUNNING;
 use block::layout::ADDRESS;
 use block::layout::ASYNC_MARK;
 use block::layout::ASYNC_WORD;
@@ -18,8 +15,11 @@ use block::layout::TRANSMIT_POSITION;
 use block::layout::TRANSMIT_RING;
 use block::layout::TRANSMIT_SENT;
 use block::layout::TRANSMITTER;
+use schedule::IDLE;
 use schedule::Output;
+use schedule::PAUSED;
 use schedule::Place;
+use schedule::RUNNING;
 use status::rule::INTERRUPT;
 ghost use mathlib.Core.Path.{_≡_};
 ghost use Rattle.block.specs.Ranges.{Usable};
