@@ -12,7 +12,7 @@ use Rattle.ring.proofs.Words.{sets-other}
 use Rattle.ring.proofs.Laws.{none-held, length-held, append, take-oldest, overwrite, elsewhere-set}
 use Rattle.block.specs.Layout.{word, Whole, blockWords}
 use Rattle.block.specs.Clearing.{counted, cleared}
-use Rattle.block.specs.Fifos.{Places, receivePlaces, transmitPlaces, entryAppended, entryOverwriting, entryTaken, Fifo, fifo, accepts, gives, clears, overwrites}
+use Rattle.block.specs.Fifos.{Offsets, receiveOffsets, transmitOffsets, entryAppended, entryOverwriting, entryTaken, Fifo, fifo, accepts, gives, clears, overwrites}
 
 -- a FIFO by its parts
 same : {h h′ : List (List ℕ)} {a a′ t t′ c c′ : ℕ} → h ≡ h′ → a ≡ a′ → t ≡ t′ → c ≡ c′
@@ -20,7 +20,7 @@ same : {h h′ : List (List ℕ)} {a a′ t t′ c c′ : ℕ} → h ≡ h′ �
 same p q r s = λ i. record { held = p i; accepted = q i; taken = r i; cleared = s i }
 
 -- a word that is none of a FIFO's
-pub record Apart (p : Places) (i : ℕ) : Type 0 where
+pub record Apart (p : Offsets) (i : ℕ) : Type 0 where
   pub position : p .position ≢ i
   pub level : p .level ≢ i
   pub accepted : p .accepted ≢ i
@@ -29,7 +29,7 @@ pub record Apart (p : Places) (i : ℕ) : Type 0 where
   pub ring : p .ring .at ≤ i → i < end (p .ring) → ⊥
 
 -- a FIFO whose words are all different and stand before its ring
-pub record Proper (p : Places) : Type 0 where
+pub record Proper (p : Offsets) : Type 0 where
   pub some : 0 < p .ring .slots
   pub room : end (p .ring) ≤ blockWords
   pub position : p .position < p .ring .at
@@ -48,21 +48,21 @@ pub record Proper (p : Places) : Type 0 where
   pub accepted-cleared : p .accepted ≢ p .cleared
   pub taken-cleared : p .taken ≢ p .cleared
 
-pub receive-proper : Proper receivePlaces
+pub receive-proper : Proper receiveOffsets
 receive-proper = omega arith
 
-pub transmit-proper : Proper transmitPlaces
+pub transmit-proper : Proper transmitOffsets
 transmit-proper = omega arith
 
 -- a store at a word that is none of a FIFO's leaves it
-pub store-apart : (p : Places) (b : List ℕ) (i v : ℕ) → 0 < p .ring .slots → Apart p i → fifo p (set b i v) ≡ fifo p b
+pub store-apart : (p : Offsets) (b : List ℕ) (i v : ℕ) → 0 < p .ring .slots → Apart p i → fifo p (set b i v) ≡ fifo p b
 store-apart p b i v h a =
     same
     (rw (getD-set-other b i (p .position) v 0 (a .position), getD-set-other b i (p .level) v 0 (a .level)) (elsewhere-set (p .ring) b i v _ _ h (a .ring)))
     (getD-set-other b i (p .accepted) v 0 (a .accepted)) (getD-set-other b i (p .taken) v 0 (a .taken))
     (getD-set-other b i (p .cleared) v 0 (a .cleared))
 
-module _ (p : Places) (q : Proper p) (b : List ℕ) (w : Whole b) where
+module _ (p : Offsets) (q : Proper p) (b : List ℕ) (w : Whole b) where
   -- an entry stored in the ring leaves the words before it
   before-ring : (k : ℕ) (e : List ℕ) (i : ℕ) → i < p .ring .at → word (sets b (slot (p .ring) k) e) i ≡ word b i
   before-ring k e i h = sets-other b (slot (p .ring) k) e i (λ l u. omega arith)

@@ -10,7 +10,7 @@ use Rattle.block.specs.Clearing.{counted}
 -- ---- a FIFO's words
 
 -- where a FIFO's words stand; `taken` counts the entries read or sent
-pub record Places : Type 0 where
+pub record Offsets : Type 0 where
   pub ring : Ring
   pub position : ℕ
   pub level : ℕ
@@ -18,8 +18,8 @@ pub record Places : Type 0 where
   pub taken : ℕ
   pub cleared : ℕ
 
-abbrev pub receivePlaces : Places
-receivePlaces =
+abbrev pub receiveOffsets : Offsets
+receiveOffsets =
     record {
       ring = receiveRing;
       position = receivePosition;
@@ -29,8 +29,8 @@ receivePlaces =
       cleared = receiveCleared;
     }
 
-abbrev pub transmitPlaces : Places
-transmitPlaces =
+abbrev pub transmitOffsets : Offsets
+transmitOffsets =
     record {
       ring = transmitRing;
       position = transmitPosition;
@@ -40,7 +40,7 @@ transmitPlaces =
       cleared = transmitCleared;
     }
 
-module _ (p : Places) (b : List ℕ) where
+module _ (p : Offsets) (b : List ℕ) where
   -- the oldest entry
   abbrev pub oldestEntry : List ℕ
   oldestEntry = oldest (p .ring) b (word b (p .position))
@@ -72,7 +72,7 @@ pub record Fifo : Type 0 where
   pub taken : ℕ
   pub cleared : ℕ
 
-abbrev pub fifo : Places → List ℕ → Fifo
+abbrev pub fifo : Offsets → List ℕ → Fifo
 fifo p b =
     record {
       held = held (p .ring) b (word b (p .position)) (word b (p .level));

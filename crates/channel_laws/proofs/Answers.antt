@@ -9,7 +9,7 @@ use Rattle.word.specs.Parity.{asSent}
 use Rattle.ring.proofs.Laws.{length-held}
 use Rattle.block.specs.Layout.{word, parity, receiveLevel}
 use Rattle.block.specs.Ranges.{Usable}
-use Rattle.block.specs.Fifos.{Places, receivePlaces, transmitPlaces, fifo}
+use Rattle.block.specs.Fifos.{Offsets, receiveOffsets, transmitOffsets, fifo}
 use Rattle.schedule.specs.Output.{isFifoWord}
 use Rattle.schedule.specs.declared.Output.the-variants.{FifoWord}
 use Rattle.receive.specs.Arrival.{arrival}
@@ -34,34 +34,34 @@ use Rattle.channel_laws.specs.Kept.{keptOf}
 use Rattle.channel_laws.specs.Told.{Sent, receiveTold, transmitTold, Told}
 
 -- a FIFO holds as many entries as its level says
-level-held : (p : Places) (b : List ℕ) → length (fifo p b .held) ≡ word b (p .level)
+level-held : (p : Offsets) (b : List ℕ) → length (fifo p b .held) ≡ word b (p .level)
 level-held p b = length-held (p .ring) b (word b (p .position)) (word b (p .level))
 
-receive-told : (k : ReceiveCall) {b : List ℕ} → Usable b → receiveCallRefusal k b ≡ 0 → receiveTold k (receiveAnswer k b) (fifo receivePlaces b)
+receive-told : (k : ReceiveCall) {b : List ℕ} → Usable b → receiveCallRefusal k b ≡ 0 → receiveTold k (receiveAnswer k b) (fifo receiveOffsets b)
 receive-told (Arrive w) {b} u e = λ o.
     let a : arrival w b ≡ Overwriting = cc in
-    omega (arith, level-held receivePlaces b, full w b a, bounds u)
+    omega (arith, level-held receiveOffsets b, full w b a, bounds u)
 receive-told ReadFifo {b} u e =
     let h : 0 < word b receiveLevel = not-below 1 (word b receiveLevel) 6 e in
     record {
-      entry = getD (fifo receivePlaces b .held) 0 [];
-      oldest = record { some = omega (arith, level-held receivePlaces b); first = refl };
+      entry = getD (fifo receiveOffsets b .held) 0 [];
+      oldest = record { some = omega (arith, level-held receiveOffsets b); first = refl };
       answer = ap entryAnswer (read-answer b h);
     }
 receive-told (ReadMailbox i) u e = tt
 
-step-told : {b : List ℕ} → Usable b → (w gap : ℕ) → Stepped (stepOutput b) ≡ Stepped (FifoWord w gap) → Sent (fifo transmitPlaces b) w
+step-told : {b : List ℕ} → Usable b → (w gap : ℕ) → Stepped (stepOutput b) ≡ Stepped (FifoWord w gap) → Sent (fifo transmitOffsets b) w
 step-told {b} u w gap e =
     let o : stepOutput b ≡ FifoWord w gap = cc in
     let s : Sends b (stepOutput b) = step-sends u (ap isFifoWord o) in
     let sent : w ≡ asSent (word b parity) (oldestWord b) = cc (s .output) in
     record {
       word = oldestWord b;
-      oldest = record { some = omega (arith, level-held transmitPlaces b, s .some); first = ap (λ (l : List (List ℕ)). getD l 0 []) (s .oldest) };
+      oldest = record { some = omega (arith, level-held transmitOffsets b, s .some); first = ap (λ (l : List (List ℕ)). getD l 0 []) (s .oldest) };
       aside = ap (λ (x : ℕ). x % 2 ^ 31) sent ∙ s .aside;
     }
 
-transmit-told : (k : TransmitCall) {b : List ℕ} → Usable b → transmitTold k (transmitAnswer k b) (fifo transmitPlaces b)
+transmit-told : (k : TransmitCall) {b : List ℕ} → Usable b → transmitTold k (transmitAnswer k b) (fifo transmitOffsets b)
 transmit-told (WriteFifo w) u = tt
 transmit-told (WriteAsync w) u = tt
 transmit-told Trigger u = tt

@@ -13,7 +13,7 @@ use Rattle.block.specs.Clearing.{counted, stopped}
 use Rattle.block.specs.Matching.{matchAt}
 use Rattle.status.specs.Status.{ruled, faultWeight}
 use Rattle.status.specs.Tests.{fifosCleared, tested}
-use Rattle.block.specs.Fifos.{receivePlaces, transmitPlaces, Fifo, fifo, gives, Change, Stays, Adds, Takes, Clears, changed, overwrittenAfter}
+use Rattle.block.specs.Fifos.{receiveOffsets, transmitOffsets, Fifo, fifo, gives, Change, Stays, Adds, Takes, Clears, changed, overwrittenAfter}
 use Rattle.block.proofs.Sound.{in-range}
 use Rattle.block.proofs.Keeps.{stop-keeps, settable, write-keeps}
 use Rattle.status.proofs.Keeps.{rule-keeps, clear-keeps, test-keeps}
@@ -121,7 +121,7 @@ test-left stamp (InitiateTest r) a {b} u = record { usable = test-keeps u r; is 
 
 -- ---- receiving
 
-received : {b c : List ℕ} (r : Change) → Usable b → Usable c → ReceiveLeaves b c → fifo receivePlaces c ≡ changed counted r (fifo receivePlaces b)
+received : {b c : List ℕ} (r : Change) → Usable b → Usable c → ReceiveLeaves b c → fifo receiveOffsets c ≡ changed counted r (fifo receiveOffsets b)
     → word c receiveOverwritten ≡ overwrittenAfter counted r (word b receiveOverwritten) → Holds c (keptBy counted (take settings b) r Stays (keptOf b))
 received {b} {c} r u v l p q = record { usable = v; is = parts (same-settings b c (u .whole) (v .whole) (l .setting)) p q (l .transmit) }
 
@@ -138,7 +138,7 @@ receive-left stamp (ReadMailbox i) u e = stored (here u) (mailboxAt i) _ (omega 
 
 -- ---- the transmitter
 
-transmitted : {b c : List ℕ} (t : Change) → Usable b → TransmitLeaves b c → fifo transmitPlaces c ≡ changed counted t (fifo transmitPlaces b)
+transmitted : {b c : List ℕ} (t : Change) → Usable b → TransmitLeaves b c → fifo transmitOffsets c ≡ changed counted t (fifo transmitOffsets b)
     → Holds c (keptBy counted (take settings b) Stays t (keptOf b))
 transmitted {b} {c} t u l p =
     record { usable = l .usable; is = parts (same-settings b c (u .whole) (l .usable .whole) (l .settings)) (l .receive) (l .overwritten) p }
@@ -157,7 +157,7 @@ transmit-left stamp (WriteAsync w) {b} u e = transmitted Stays u (async-keeps u 
 transmit-left stamp Trigger {b} u e = transmitted Stays u (trigger-keeps u) (trigger-fifo b)
 transmit-left stamp Pause {b} u e = transmitted Stays u (pause-keeps u) (pause-fifo b)
 transmit-left stamp Stop {b} u e = record { usable = stop-keeps u; is = stop-kept b }
-transmit-left stamp Step {b} u e = transmitted (cond (isFifoWord (stepOutput b)) Takes Stays) u (step-keeps u) (step-fifo u ∙ takes-if (isFifoWord (stepOutput b)) (fifo transmitPlaces b))
+transmit-left stamp Step {b} u e = transmitted (cond (isFifoWord (stepOutput b)) Takes Stays) u (step-keeps u) (step-fifo u ∙ takes-if (isFifoWord (stepOutput b)) (fifo transmitOffsets b))
 
 -- ---- every call
 

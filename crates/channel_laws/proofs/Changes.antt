@@ -13,7 +13,7 @@ use Rattle.block.specs.Layout.{word, settings, receiveMode, transmitMode, trans
 use Rattle.block.specs.Clearing.{counted, receiveFifoCleared, transmitFifoCleared, stopped, forgotten}
 use Rattle.block.specs.Settings.{receiveModeWritten, transmitModeWritten, transmitterWritten, written}
 use Rattle.status.specs.Tests.{fifosCleared}
-use Rattle.block.specs.Fifos.{receivePlaces, transmitPlaces, Stays, Clears}
+use Rattle.block.specs.Fifos.{receiveOffsets, transmitOffsets, Stays, Clears}
 use Rattle.block.proofs.Words.{words}
 use Rattle.block.proofs.Fifos.{receive-proper, transmit-proper, store-apart, clear-law}
 use Rattle.channel_laws.specs.Kept.{Kept, keptOf, settingChange, keptBy}
@@ -36,17 +36,17 @@ cleared-settings b i j v h l = take-set-le settings (set b i v) j 0 l ∙ take-s
 module _ (b : List ℕ) (w : Whole b) where
   receive-clear-kept : keptOf (receiveFifoCleared b) ≡ keptBy counted (take settings b) Clears Stays (keptOf b)
   receive-clear-kept =
-      parts (cleared-settings b receiveCleared receiveLevel _ (omega arith) (omega arith)) (clear-law receivePlaces receive-proper b w)
+      parts (cleared-settings b receiveCleared receiveLevel _ (omega arith) (omega arith)) (clear-law receiveOffsets receive-proper b w)
       (search words)
-      (store-apart transmitPlaces (set b receiveCleared _) receiveLevel 0 (omega arith) (omega arith)
-      ∙ store-apart transmitPlaces b receiveCleared _ (omega arith) (omega arith))
+      (store-apart transmitOffsets (set b receiveCleared _) receiveLevel 0 (omega arith) (omega arith)
+      ∙ store-apart transmitOffsets b receiveCleared _ (omega arith) (omega arith))
 
   transmit-clear-kept : keptOf (transmitFifoCleared b) ≡ keptBy counted (take settings b) Stays Clears (keptOf b)
   transmit-clear-kept =
       parts (cleared-settings b transmitCleared transmitLevel _ (omega arith) (omega arith))
-      (store-apart receivePlaces (set b transmitCleared _) transmitLevel 0 (omega arith) (omega arith)
-      ∙ store-apart receivePlaces b transmitCleared _ (omega arith) (omega arith))
-      (search words) (clear-law transmitPlaces transmit-proper b w)
+      (store-apart receiveOffsets (set b transmitCleared _) transmitLevel 0 (omega arith) (omega arith)
+      ∙ store-apart receiveOffsets b transmitCleared _ (omega arith) (omega arith))
+      (search words) (clear-law transmitOffsets transmit-proper b w)
 
 pub both-clear-kept : (b : List ℕ) → Whole b → keptOf (fifosCleared b) ≡ keptBy counted (take settings b) Clears Clears (keptOf b)
 both-clear-kept b w =
@@ -59,8 +59,8 @@ module _ (b : List ℕ) (s v : ℕ) (h : s < settings) where
   -- stored
   setting-kept : keptOf (set b s v) ≡ withSetting (keptOf b) s v
   setting-kept =
-      parts (take-set-lt settings b s v h) (store-apart receivePlaces b s v (omega arith) (omega arith))
-      (getD-set-other b s receiveOverwritten v 0 (omega arith)) (store-apart transmitPlaces b s v (omega arith) (omega arith))
+      parts (take-set-lt settings b s v h) (store-apart receiveOffsets b s v (omega arith) (omega arith))
+      (getD-set-other b s receiveOverwritten v 0 (omega arith)) (store-apart transmitOffsets b s v (omega arith) (omega arith))
 
   -- or held already
   already : word b s ≡ v → keptOf b ≡ withSetting (keptOf b) s v

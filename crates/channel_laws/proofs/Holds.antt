@@ -11,7 +11,7 @@ use lib.Seq.{getD-set-other, getD-take, take-set-le}
 use Rattle.ring.proofs.Words.{words-part, words-same}
 use Rattle.block.specs.Layout.{word, settings, receiveOverwritten, ranged, Whole}
 use Rattle.block.specs.Ranges.{inRange, Usable}
-use Rattle.block.specs.Fifos.{receivePlaces, transmitPlaces, Fifo}
+use Rattle.block.specs.Fifos.{receiveOffsets, transmitOffsets, Fifo}
 use Rattle.block.proofs.Sound.{usable-set}
 use Rattle.block.proofs.Fifos.{Apart, store-apart}
 use Rattle.channel_laws.specs.Kept.{Kept, keptOf}
@@ -45,13 +45,13 @@ kept-setting b i h = getD-take settings b i 0 h
 pub record Aside (i : ℕ) : Type 0 where
   pub setting : settings ≤ i
   pub overwritten : receiveOverwritten ≢ i
-  pub receive : Apart receivePlaces i
-  pub transmit : Apart transmitPlaces i
+  pub receive : Apart receiveOffsets i
+  pub transmit : Apart transmitOffsets i
 
 pub store-kept : (b : List ℕ) (i v : ℕ) → Aside i → keptOf (set b i v) ≡ keptOf b
 store-kept b i v a =
-    parts (take-set-le settings b i v (a .setting)) (store-apart receivePlaces b i v (omega arith) (a .receive))
-    (getD-set-other b i receiveOverwritten v 0 (a .overwritten)) (store-apart transmitPlaces b i v (omega arith) (a .transmit))
+    parts (take-set-le settings b i v (a .setting)) (store-apart receiveOffsets b i v (omega arith) (a .receive))
+    (getD-set-other b i receiveOverwritten v 0 (a .overwritten)) (store-apart transmitOffsets b i v (omega arith) (a .transmit))
 
 -- a store there, in range
 pub stored : {c : List ℕ} {h : Kept} → Holds c h → (i v : ℕ) → Aside i → (i < ranged → inRange i v ≡ true) → Holds (set c i v) h

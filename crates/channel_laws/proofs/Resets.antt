@@ -13,7 +13,7 @@ use Rattle.block.specs.Ranges.{leasts, greatests, inRange, Usable}
 use Rattle.block.specs.Clearing.{counted, forgotten}
 use Rattle.block.specs.Factory.{factorySettings, factoryOf, settingsToFactory}
 use Rattle.status.specs.Tests.{fifosCleared, blockReset}
-use Rattle.block.specs.Fifos.{Places, receivePlaces, transmitPlaces, fifo, noEntries}
+use Rattle.block.specs.Fifos.{Offsets, receiveOffsets, transmitOffsets, fifo, noEntries}
 use Rattle.block.proofs.Words.{words}
 use Rattle.block.proofs.Sound.{usable-words}
 use Rattle.block.proofs.Keeps.{factory-parts}
@@ -70,7 +70,7 @@ first-in n i h =
     (passes (λ j. inRange j (getD factorySettings j 0)) ranged tt i h)
 
 -- a FIFO whose numbers are no settings
-first-fifo : (p : Places) (n : ℕ) → settings ≤ p .level → settings ≤ p .accepted → settings ≤ p .taken → settings ≤ p .cleared
+first-fifo : (p : Offsets) (n : ℕ) → settings ≤ p .level → settings ≤ p .accepted → settings ≤ p .taken → settings ≤ p .cleared
     → fifo p (factoryOf n) ≡ noEntries
 first-fifo p n l a t c =
     let none : fifo p (factoryOf n) .held ≡ [] = rw (first-zero n (p .level) l) (none-held (p .ring) (factoryOf n) _) in
@@ -81,8 +81,8 @@ first-holds n e =
     record {
       usable = usable-words long (first-in n) (rw (first-word n receiveLevel, first-word n receiveSize) zero-le);
       is =
-          parts refl (first-fifo receivePlaces n (omega arith) (omega arith) (omega arith) (omega arith)) (first-word n receiveOverwritten)
-          (first-fifo transmitPlaces n (omega arith) (omega arith) (omega arith) (omega arith));
+          parts refl (first-fifo receiveOffsets n (omega arith) (omega arith) (omega arith) (omega arith)) (first-word n receiveOverwritten)
+          (first-fifo transmitOffsets n (omega arith) (omega arith) (omega arith) (omega arith));
     }
   where
     long : Whole (factoryOf n)

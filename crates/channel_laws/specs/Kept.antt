@@ -7,7 +7,7 @@ use lib.Dec.{eqb}
 use lib.ListN.{take, set}
 use Rattle.block.specs.Layout.{word, settings, receiveMode, receiveOverwritten}
 use Rattle.block.specs.Factory.{factorySettings}
-use Rattle.block.specs.Fifos.{receivePlaces, transmitPlaces, Fifo, fifo, noEntries, Change, Stays, Adds, Takes, Clears, changed, overwrittenAfter}
+use Rattle.block.specs.Fifos.{receiveOffsets, transmitOffsets, Fifo, fifo, noEntries, Change, Stays, Adds, Takes, Clears, changed, overwrittenAfter}
 use Rattle.schedule.specs.Output.{isFifoWord}
 use Rattle.receive.specs.Entries.{entryOf}
 use Rattle.receive.specs.Fates.{arrivalChange}
@@ -37,9 +37,9 @@ abbrev pub keptOf : List ℕ → Kept
 keptOf b =
     record {
       settings = take settings b;
-      receive = fifo receivePlaces b;
+      receive = fifo receiveOffsets b;
       overwritten = word b receiveOverwritten;
-      transmit = fifo transmitPlaces b;
+      transmit = fifo transmitOffsets b;
     }
 
 -- ---- what an answer says

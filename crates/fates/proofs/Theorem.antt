@@ -17,7 +17,7 @@ use Rattle.fates.specs.History.{start, history}
 use Rattle.fates.specs.Tells.{AllTold}
 use Rattle.fates.specs.Ledger.{Ledger, Side, Receiving, Transmitting, fifoOf, overwrittenOf}
 use Rattle.fates.specs.Agrees.{Agrees}
-use Rattle.fates.specs.Theorem.{PoweredUp, placesOf, storedOverwritten, Accounted, Theorem, Demand3}
+use Rattle.fates.specs.Theorem.{PoweredUp, offsetsOf, storedOverwritten, Accounted, Theorem, Demand3}
 use Rattle.fates.proofs.Runs.{agrees, answered}
 use Rattle.fates.proofs.Tells.{all-told}
 use Rattle.fates.proofs.Ledger.{number-all}
@@ -26,10 +26,10 @@ use Rattle.fates.proofs.Balance.{Balance, balanced, placed, never-empty
 
 -- what a block stores of a FIFO is what the history keeps, the counts modulo 2 ^ 32
 record Stored (side : Side) (h : Kept) (b : List ℕ) : Type 0 where
-  held : fifo (placesOf side) b .held ≡ fifoOf side h .held
-  accepted : word b (placesOf side .accepted) ≡ rolled (fifoOf side h .accepted)
-  taken : word b (placesOf side .taken) ≡ rolled (fifoOf side h .taken)
-  cleared : word b (placesOf side .cleared) ≡ rolled (fifoOf side h .cleared)
+  held : fifo (offsetsOf side) b .held ≡ fifoOf side h .held
+  accepted : word b (offsetsOf side .accepted) ≡ rolled (fifoOf side h .accepted)
+  taken : word b (offsetsOf side .taken) ≡ rolled (fifoOf side h .taken)
+  cleared : word b (offsetsOf side .cleared) ≡ rolled (fifoOf side h .cleared)
   overwritten : storedOverwritten side b ≡ rolled (overwrittenOf side h)
 
 stored : (side : Side) {h : Kept} {b : List ℕ} → keptOf b ≡ reduced h → Stored side h b

@@ -5,7 +5,7 @@ use mathlib.Core.Bool.{false}
 use mathlib.Core.List.{List, [], _∷_, _++_, map}
 use lib.ListN.{length, take}
 use Rattle.block.specs.Layout.{word, receiveOverwritten}
-use Rattle.block.specs.Fifos.{Places, receivePlaces, transmitPlaces, fifo, Change}
+use Rattle.block.specs.Fifos.{Offsets, receiveOffsets, transmitOffsets, fifo, Change}
 use Rattle.channel_calls.specs.declared.calls.Answer.{Answer}
 use Rattle.channel_laws.specs.Kept.{Kept}
 use Rattle.frame.specs.Layout.{block}
@@ -35,9 +35,9 @@ Started (x ∷ cs) m = PoweredUp (x .1) (answer (x .1) (take (x .0) m))
 
 -- ---- what a channel's block stores of a FIFO
 
-abbrev pub placesOf : Side → Places
-placesOf Receiving = receivePlaces
-placesOf Transmitting = transmitPlaces
+abbrev pub offsetsOf : Side → Offsets
+offsetsOf Receiving = receiveOffsets
+offsetsOf Transmitting = transmitOffsets
 
 abbrev pub storedOverwritten : Side → List ℕ → ℕ
 storedOverwritten Receiving b = word b receiveOverwritten
@@ -64,13 +64,13 @@ pub record Accounted (side : Side) (l : Ledger) (s : List (List ℕ)) (c : ℕ �
   -- "Each entry taken out is as it was accepted (on sending, its parity bit aside), in number order."
   pub out : map (aside side) s ≡ map (aside side) (withFate TakenOut (l .accepted) (l .fates))
   -- "The held ones are the newest, and exactly these are in the FIFO, oldest first."
-  pub held : fifo (placesOf side) b .held ≡ entries (remaining l)
+  pub held : fifo (offsetsOf side) b .held ≡ entries (remaining l)
   -- "The description's history gives it from the calls and their answers alone": the ledger's held entries and counts are the history's
   pub history : Accounts l (fifoOf side h) (overwrittenOf side h)
   -- "Accepted and fate counts equal the history's, modulo 4,294,967,296, also across module resets."
-  pub accepted : word b (placesOf side .accepted) ≡ rolled (length (l .accepted))
-  pub taken : word b (placesOf side .taken) ≡ rolled (number TakenOut (l .fates))
-  pub cleared : word b (placesOf side .cleared) ≡ rolled (number Cleared (l .fates))
+  pub accepted : word b (offsetsOf side .accepted) ≡ rolled (length (l .accepted))
+  pub taken : word b (offsetsOf side .taken) ≡ rolled (number TakenOut (l .fates))
+  pub cleared : word b (offsetsOf side .cleared) ≡ rolled (number Cleared (l .fates))
   pub overwritten : storedOverwritten side b ≡ rolled (number Overwritten (l .fates))
 
 -- ---- the theorem

@@ -8,7 +8,7 @@ use Rattle.word.specs.Parity.{asSent, errorMark}
 use Rattle.word.specs.Gap.{clamped}
 use Rattle.block.specs.Layout.{word, receiver, matching, fifoKind, receiveSize, receiveAccepted, receiveOverwritten, blockWords}
 use Rattle.block.specs.Factory.{factoryOf}
-use Rattle.block.specs.Fifos.{receivePlaces, fifo}
+use Rattle.block.specs.Fifos.{receiveOffsets, fifo}
 use Rattle.status.specs.Status.{faultWeight, faulty, latched}
 use Rattle.frame.specs.Layout.{stamp}
 use Rattle.frame.specs.Counters.{sampled}
@@ -28,7 +28,7 @@ receiving matched kind size = set (set (set (set (factoryOf blockWords) receiver
 
 -- the entries that the receive FIFO holds, each as status, word and stamp, then the counts of accepted and overwritten
 unfoldable pub received : List ℕ → List ℕ
-received b = flatten (fifo receivePlaces b .held) ++ (word b receiveAccepted ∷ word b receiveOverwritten ∷ [])
+received b = flatten (fifo receiveOffsets b .held) ++ (word b receiveAccepted ∷ word b receiveOverwritten ∷ [])
 
 -- a running schedule at an address, and its async word, which is waiting where its mark is 1
 abbrev pub runs : ℕ → ℕ → ℕ → Place

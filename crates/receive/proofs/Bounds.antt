@@ -17,7 +17,7 @@ use Rattle.ring.specs.Ring.{slots}
 use Rattle.ring.proofs.Words.{sets-other}
 use Rattle.block.specs.Layout.{word, receiver, parity, stamps, fifoKind, receiveMode, receiveLevel, receivePosition, receiveSize, mailboxes, blockWords}
 use Rattle.block.specs.Ranges.{leasts, greatests, Usable}
-use Rattle.block.specs.Fifos.{receivePlaces, entryAppended}
+use Rattle.block.specs.Fifos.{receiveOffsets, entryAppended}
 use Rattle.block.proofs.Sound.{at-least, at-most, level-in-size, usable-beyond}
 use Rattle.receive.specs.Arrival.{outcome, filtered, arrival}
 use Rattle.receive.specs.Entries.{stampOf, entryOf, mailboxAt, newMark, mailOf, mailed}
@@ -114,9 +114,9 @@ mail-room b m stamp w a u e d t =
 
 -- what is stored, from what the calls leave: `m` after the mailbox, `c` after the entry `e`
 pub store-appended : (b m c e : List ℕ) (stamp w : ℕ) (a : Arrival) → a ≡ Appended → m ≡ mailed stamp w b → e ≡ entryOf stamp w b
-    → c ≡ entryAppended receivePlaces m e → c ≡ stored a stamp w b
+    → c ≡ entryAppended receiveOffsets m e → c ≡ stored a stamp w b
 unfolding stored
-store-appended b m c e stamp w a d p q r = rw d (r ∙ ap₂ (entryAppended receivePlaces) p q)
+store-appended b m c e stamp w a d p q r = rw d (r ∙ ap₂ (entryAppended receiveOffsets) p q)
 
 pub store-overwriting : (b m c e : List ℕ) (stamp w : ℕ) (a : Arrival) → a ≡ Overwriting → m ≡ mailed stamp w b → e ≡ entryOf stamp w b
     → c ≡ overwriting m e → c ≡ stored a stamp w b

@@ -17,7 +17,7 @@ use Rattle.block.specs.Layout.{word, parity, stamps, receiveMode, settings, rec
 use Rattle.block.specs.Ranges.{leasts, greatests, Usable}
 use Rattle.block.specs.Clearing.{counted}
 use Rattle.status.specs.Status.{parityErrorSignal}
-use Rattle.block.specs.Fifos.{Places, receivePlaces, transmitPlaces, entryAppended, entryOverwriting, Fifo, fifo, accepts, gives, overwrites, changed, overwrittenAfter}
+use Rattle.block.specs.Fifos.{Offsets, receiveOffsets, transmitOffsets, entryAppended, entryOverwriting, Fifo, fifo, accepts, gives, overwrites, changed, overwrittenAfter}
 use Rattle.block.proofs.Words.{words}
 use Rattle.block.proofs.Sound.{in-range, usable-level, usable-beyond}
 use Rattle.block.proofs.Keeps.{usable-store, usable-behind}
@@ -61,7 +61,7 @@ entry-by-settings stamp w b c h = rw (h receiveMode (omega arith), h parity (ome
 -- ---- stores in the block
 
 -- stores at words that are none of a FIFO's leave it
-sets-apart : (p : Places) (b : List ℕ) (s : ℕ) (e : List ℕ) → 0 < p .ring .slots → ((i : ℕ) → s ≤ i → i < s + length e → Apart p i)
+sets-apart : (p : Offsets) (b : List ℕ) (s : ℕ) (e : List ℕ) → 0 < p .ring .slots → ((i : ℕ) → s ≤ i → i < s + length e → Apart p i)
     → fifo p (sets b s e) ≡ fifo p b
 sets-apart p b s [] h a = refl
 sets-apart p b s (x ∷ e) h a =
@@ -70,12 +70,12 @@ sets-apart p b s (x ∷ e) h a =
 -- a word that is neither a setting nor one of the transmit FIFO's
 record Free (i : ℕ) : Type 0 where
   setting : settings ≤ i
-  transmit : Apart transmitPlaces i
+  transmit : Apart transmitOffsets i
 
 -- what receiving leaves of a block `b`, with the block `c` after it
 pub record Leaves (b c : List ℕ) : Type 0 where
   pub setting : (i : ℕ) → i < settings → word c i ≡ word b i
-  pub transmit : fifo transmitPlaces c ≡ fifo transmitPlaces b
+  pub transmit : fifo transmitOffsets c ≡ fifo transmitOffsets b
 
 same-left : (b : List ℕ) → Leaves b b
 same-left b = record { setting = λ i h. refl; transmit = refl }
@@ -88,17 +88,17 @@ store-leaves {b} {c} i v f p =
     then p
     (record {
       setting = λ j h. getD-set-other c i j v 0 (omega (arith, f .setting));
-      transmit = store-apart transmitPlaces c i v (omega arith) (f .transmit);
+      transmit = store-apart transmitOffsets c i v (omega arith) (f .transmit);
     })
 
-stores-leave : (b : List ℕ) (s : ℕ) (e : List ℕ) → settings ≤ s → ((i : ℕ) → s ≤ i → i < s + length e → Apart transmitPlaces i)
+stores-leave : (b : List ℕ) (s : ℕ) (e : List ℕ) → settings ≤ s → ((i : ℕ) → s ≤ i → i < s + length e → Apart transmitOffsets i)
     → Leaves b (sets b s e)
 stores-leave b s e h a =
-    record { setting = λ j l. sets-other b s e j (λ x y. omega arith); transmit = sets-apart transmitPlaces b s e (omega arith) a }
+    record { setting = λ j l. sets-other b s e j (λ x y. omega arith); transmit = sets-apart transmitOffsets b s e (omega arith) a }
 
 -- ---- a mailbox takes the word
 
-mail-fifo : (p : Places) (stamp w : ℕ) (b : List ℕ) → 0 < p .ring .slots → ((i : ℕ) → mailboxes ≤ i → Apart p i)
+mail-fifo : (p : Offsets) (stamp w : ℕ) (b : List ℕ) → 0 < p .ring .slots → ((i : ℕ) → mailboxes ≤ i → Apart p i)
     → fifo p (mailed stamp w b) ≡ fifo p b
 unfolding mailed
 mail-fifo p stamp w b h a = go (eqb (word b receiveMode) 0)
@@ -111,7 +111,7 @@ mail-leaves : (stamp w : ℕ) (b : List ℕ) → Leaves b (mailed stamp w b)
 mail-leaves stamp w b =
     record {
       setting = λ i h. mail-before stamp w b i (omega arith);
-      transmit = mail-fifo transmitPlaces stamp w b (omega arith) (λ i h. omega arith);
+      transmit = mail-fifo transmitOffsets stamp w b (omega arith) (λ i h. omega arith);
     }
 
 -- ---- an entry is accepted
@@ -124,7 +124,7 @@ module _ {b : List ℕ} (u : Usable b) (e : List ℕ) where
   ring-keeps : (k : ℕ) → Usable (sets b (slot receiveRing k) e)
   ring-keeps k = usable-beyond b (slot receiveRing k) e u (omega arith)
 
-  append-keeps : word b receiveLevel < word b receiveSize → Usable (entryAppended receivePlaces b e)
+  append-keeps : word b receiveLevel < word b receiveSize → Usable (entryAppended receiveOffsets b e)
   append-keeps h =
       let k : ℕ = word b receivePosition + word b receiveLevel in
       let s = before-ring b e k receiveSize (omega arith) in
@@ -142,7 +142,7 @@ module _ (b e : List ℕ) (long : length e ≡ 3) where
   ring-leaves : (k : ℕ) → Leaves b (sets b (slot receiveRing k) e)
   ring-leaves k = stores-leave b (slot receiveRing k) e (omega arith) (λ i l u. omega arith)
 
-  append-leaves : Leaves b (entryAppended receivePlaces b e)
+  append-leaves : Leaves b (entryAppended receiveOffsets b e)
   append-leaves =
       store-leaves receiveAccepted _ (omega arith) (store-leaves receiveLevel _ (omega arith) (ring-leaves (word b receivePosition + word b receiveLevel)))
 
@@ -153,7 +153,7 @@ module _ (b e : List ℕ) (long : length e ≡ 3) where
       (store-leaves receivePosition _ (omega arith) (ring-leaves (word b receivePosition + word b receiveLevel))))
 
 -- the count of the overwritten
-append-overwritten : (b e : List ℕ) → word (entryAppended receivePlaces b e) receiveOverwritten ≡ word b receiveOverwritten
+append-overwritten : (b e : List ℕ) → word (entryAppended receiveOffsets b e) receiveOverwritten ≡ word b receiveOverwritten
 append-overwritten b e = search (words, before-ring b e (word b receivePosition + word b receiveLevel) receiveOverwritten (omega arith))
 
 overwrite-overwritten : (b e : List ℕ) → Whole b → word (overwriting b e) receiveOverwritten ≡ counted (word b receiveOverwritten) 1
@@ -198,23 +198,23 @@ module _ {b : List ℕ} (u : Usable b) (stamp w : ℕ) where
       go Overwriting = then (mail-leaves stamp w b) (overwrite-leaves mail (entryOf stamp w b) (entry-width stamp w b))
 
   -- the receive FIFO
-  pub arrive-fifo : fifo receivePlaces (arrived stamp w b) ≡ changed counted (arrivalChange (arrival w b) (entryOf stamp w b)) (fifo receivePlaces b)
+  pub arrive-fifo : fifo receiveOffsets (arrived stamp w b) ≡ changed counted (arrivalChange (arrival w b) (entryOf stamp w b)) (fifo receiveOffsets b)
   unfolding stored
   arrive-fifo = go (arrival w b) refl
     where
-      mail-left : fifo receivePlaces mail ≡ fifo receivePlaces b
-      mail-left = mail-fifo receivePlaces stamp w b (omega arith) (λ i h. omega arith)
+      mail-left : fifo receiveOffsets mail ≡ fifo receiveOffsets b
+      mail-left = mail-fifo receiveOffsets stamp w b (omega arith) (λ i h. omega arith)
 
-      go : (a : Arrival) → arrival w b ≡ a → fifo receivePlaces (stored a stamp w b) ≡ changed counted (arrivalChange a (entryOf stamp w b)) (fifo receivePlaces b)
+      go : (a : Arrival) → arrival w b ≡ a → fifo receiveOffsets (stored a stamp w b) ≡ changed counted (arrivalChange a (entryOf stamp w b)) (fifo receiveOffsets b)
       go Ignored d = refl
       go Filtered d = refl
       go Appended d =
-          append-law receivePlaces receive-proper mail (usable .whole) (entryOf stamp w b) (entry-width stamp w b) (omega (arith, has-room d, bounds usable))
+          append-law receiveOffsets receive-proper mail (usable .whole) (entryOf stamp w b) (entry-width stamp w b) (omega (arith, has-room d, bounds usable))
           ∙ ap (λ (f : Fifo). accepts counted f (entryOf stamp w b)) mail-left
       go Dropped d = mail-left
       go Overwriting d =
-          store-apart receivePlaces (entryOverwriting receivePlaces mail (entryOf stamp w b)) _ _ (omega arith) (omega arith)
-          ∙ overwrite-law receivePlaces receive-proper mail (usable .whole) (entryOf stamp w b) (entry-width stamp w b)
+          store-apart receiveOffsets (entryOverwriting receiveOffsets mail (entryOf stamp w b)) _ _ (omega arith) (omega arith)
+          ∙ overwrite-law receiveOffsets receive-proper mail (usable .whole) (entryOf stamp w b) (entry-width stamp w b)
           (omega (arith, is-full d, bounds usable)) (omega (arith, bounds usable))
           ∙ ap (λ (f : Fifo). overwrites counted f (entryOf stamp w b)) mail-left
 
@@ -265,13 +265,13 @@ pub read-leaves : (b : List ℕ) → Leaves b (readAfter b)
 read-leaves b =
     store-leaves receiveRead _ (omega arith) (store-leaves receivePosition _ (omega arith) (store-leaves receiveLevel _ (omega arith) (same-left b)))
 
-pub read-fifo : {b : List ℕ} → Usable b → 0 < word b receiveLevel → fifo receivePlaces (readAfter b) ≡ gives counted (fifo receivePlaces b)
-read-fifo {b} u h = take-law receivePlaces receive-proper b (u .whole) h
+pub read-fifo : {b : List ℕ} → Usable b → 0 < word b receiveLevel → fifo receiveOffsets (readAfter b) ≡ gives counted (fifo receiveOffsets b)
+read-fifo {b} u h = take-law receiveOffsets receive-proper b (u .whole) h
 
 pub read-overwritten : (b : List ℕ) → word (readAfter b) receiveOverwritten ≡ word b receiveOverwritten
 read-overwritten b = search words
 
 -- the answer is the oldest of the held entries
-pub read-answer : (b : List ℕ) → 0 < word b receiveLevel → readAnswer b ≡ shown (getD (fifo receivePlaces b .held) 0 [])
+pub read-answer : (b : List ℕ) → 0 < word b receiveLevel → readAnswer b ≡ shown (getD (fifo receiveOffsets b .held) 0 [])
 read-answer b h =
     ap (λ (l : List (List ℕ)). shown (getD l 0 [])) (sym (take-oldest receiveRing b (word b receivePosition) (word b receiveLevel) h))

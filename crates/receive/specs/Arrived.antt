@@ -8,7 +8,7 @@ use Rattle.word.specs.Parity.{errorMark}
 use Rattle.block.specs.Layout.{word, parity, receiveMode, receiveOverwritten}
 use Rattle.block.specs.Clearing.{counted}
 use Rattle.status.specs.Status.{parityErrorSignal}
-use Rattle.block.specs.Fifos.{receivePlaces, entryAppended, entryOverwriting}
+use Rattle.block.specs.Fifos.{receiveOffsets, entryAppended, entryOverwriting}
 use Rattle.receive.specs.Arrival.{arrival}
 use Rattle.receive.specs.Entries.{entryOf, mailed}
 use Rattle.receive.specs.declared.Arrival.{Arrival}
@@ -16,13 +16,13 @@ use Rattle.receive.specs.declared.Arrival.the-variants.{Ignored, Filtere
 
 -- "circular overwrites the oldest", which is counted as overwritten
 abbrev pub overwriting : List ℕ → List ℕ → List ℕ
-overwriting b e = set (entryOverwriting receivePlaces b e) receiveOverwritten (counted (word b receiveOverwritten) 1)
+overwriting b e = set (entryOverwriting receiveOffsets b e) receiveOverwritten (counted (word b receiveOverwritten) 1)
 
 -- the block with what a decision stores: the mailbox first, "the index is then appended .. under the same full rule"
 unfoldable pub stored : Arrival → ℕ → ℕ → List ℕ → List ℕ
 stored Ignored stamp w b = b
 stored Filtered stamp w b = b
-stored Appended stamp w b = entryAppended receivePlaces (mailed stamp w b) (entryOf stamp w b)
+stored Appended stamp w b = entryAppended receiveOffsets (mailed stamp w b) (entryOf stamp w b)
 stored Dropped stamp w b = mailed stamp w b
 stored Overwriting stamp w b = overwriting (mailed stamp w b) (entryOf stamp w b)
 

@@ -4,7 +4,7 @@ use mathlib.Core.List.{List, [], _∷_}
 use lib.ListN.{set}
 use Rattle.ring.specs.Ring.{words}
 use Rattle.block.specs.Layout.{word}
-use Rattle.block.specs.Fifos.{receivePlaces, oldestEntry, entryTaken}
+use Rattle.block.specs.Fifos.{receiveOffsets, oldestEntry, entryTaken}
 use Rattle.receive.specs.Entries.{mailboxAt}
 
 -- "of a stored status the two low bits count"
@@ -14,10 +14,10 @@ shown (status ∷ e) = status % 4 ∷ e
 
 -- "Reading the FIFO returns the oldest entry."
 abbrev pub readAnswer : List ℕ → List ℕ
-readAnswer b = shown (oldestEntry receivePlaces b)
+readAnswer b = shown (oldestEntry receiveOffsets b)
 
 abbrev pub readAfter : List ℕ → List ℕ
-readAfter b = entryTaken receivePlaces b
+readAfter b = entryTaken receiveOffsets b
 
 -- "Reading a mailbox (index 0 to 1023, any mode) returns it"
 abbrev pub mailboxAnswer : ℕ → List ℕ → List ℕ

@@ -21,7 +21,7 @@ ghost use Rattle.ring.specs.Ring.{slots};
 ghost use Rattle.ring.specs.Entry.{fields};
 ghost use Rattle.block.specs.Layout.{word, receiveLevel};
 ghost use Rattle.block.specs.Ranges.{Usable};
-ghost use Rattle.block.specs.Fifos.{receivePlaces, entryAppended};
+ghost use Rattle.block.specs.Fifos.{receiveOffsets, entryAppended};
 ghost use Rattle.receive.specs.Arrival.{filtered, arrival};
 ghost use Rattle.receive.specs.Entries.{stampOf, entryOf, mailed};
 ghost use Rattle.receive.specs.Arrived.{overwriting, stored, arrived, signalled, arrivalSignal};
@@ -122,7 +122,7 @@ fn mail(block: &mut [u32], stamp: u32, word: u32)
 // Accepts an entry behind those held.
 fn append(block: &mut [u32], entry: Entry)
     requires { ⌜ (Usable (now block)) × (word (now block) receiveLevel < slots) ⌝ }
-    ensures { λ r. ⌜ now (block .exit) ≡ entryAppended receivePlaces (now (block .entry)) (fields entry) ⌝ }
+    ensures { λ r. ⌜ now (block .exit) ≡ entryAppended receiveOffsets (now (block .entry)) (fields entry) ⌝ }
 {
     let position = block[RECEIVE_POSITION];
     let level = block[RECEIVE_LEVEL];

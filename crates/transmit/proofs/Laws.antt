@@ -18,7 +18,7 @@ use Rattle.ring.proofs.Laws.{take-oldest}
 use Rattle.block.specs.Layout.{word, settings, transmitter, parity, rate, receiveOverwritten, transmitLevel, transmitPosition, transmitAccepted, transmitSent, transmitMode, transmitRing, state, address, asyncMark, asyncWord, ranged}
 use Rattle.block.specs.Ranges.{leasts, greatests, inRange, Usable}
 use Rattle.block.specs.Clearing.{counted}
-use Rattle.block.specs.Fifos.{receivePlaces, transmitPlaces, entryTaken, fifo, accepts, gives}
+use Rattle.block.specs.Fifos.{receiveOffsets, transmitOffsets, entryTaken, fifo, accepts, gives}
 use Rattle.block.proofs.Sound.{in-range, at-most, usable-set}
 use Rattle.block.proofs.Fifos.{Apart, transmit-proper, store-apart, append-law, take-law}
 use Rattle.schedule.specs.Codes.{idle, running, paused, last}
@@ -36,14 +36,14 @@ use Rattle.transmit.specs.Step.{oldestWord, sendOutput, sendAfter, immed
 pub record Leaves (b c : List ℕ) : Type 0 where
   pub usable : Usable c
   pub settings : (i : ℕ) → i < settings → word c i ≡ word b i
-  pub receive : fifo receivePlaces c ≡ fifo receivePlaces b
+  pub receive : fifo receiveOffsets c ≡ fifo receiveOffsets b
   pub overwritten : word c receiveOverwritten ≡ word b receiveOverwritten
 
 -- a word that is no setting and none of the receive FIFO's
 record Aside (i : ℕ) : Type 0 where
   setting : settings ≤ i
   overwritten : receiveOverwritten ≢ i
-  receive : Apart receivePlaces i
+  receive : Apart receiveOffsets i
 
 unchanged : {b : List ℕ} → Usable b → Leaves b b
 unchanged u = record { usable = u; settings = λ i h. refl; receive = refl; overwritten = refl }
@@ -54,7 +54,7 @@ stored {b} {c} l i v a r =
     record {
       usable = usable-set (l .usable) i v (a .receive .level) (omega (arith, a .setting)) r;
       settings = λ j h. getD-set-other c i j v 0 (omega (arith, a .setting)) ∙ l .settings j h;
-      receive = store-apart receivePlaces c i v (omega arith) (a .receive) ∙ l .receive;
+      receive = store-apart receiveOffsets c i v (omega arith) (a .receive) ∙ l .receive;
       overwritten = getD-set-other c i receiveOverwritten v 0 (a .overwritten) ∙ l .overwritten;
     }
 
@@ -92,16 +92,16 @@ module _ {b : List ℕ} (u : Usable b) (w : ℕ) where
       stored-behind (stored-level l (word b transmitLevel + 1) (omega arith)) transmitAccepted _ (omega arith) (omega arith)
 
   -- the word is accepted
-  pub write-accepts : HasRoom b → fifo transmitPlaces (fifoWritten w b) ≡ accepts counted (fifo transmitPlaces b) (w ∷ [])
-  write-accepts h = append-law transmitPlaces transmit-proper b (u .whole) (w ∷ []) refl h
+  pub write-accepts : HasRoom b → fifo transmitOffsets (fifoWritten w b) ≡ accepts counted (fifo transmitOffsets b) (w ∷ [])
+  write-accepts h = append-law transmitOffsets transmit-proper b (u .whole) (w ∷ []) refl h
 
   pub async-keeps : Leaves b (asyncWritten w b)
   async-keeps = stored-behind (stored-mark (unchanged u) 1 (omega arith)) asyncWord w (omega arith) (omega arith)
 
-pub async-fifo : (b : List ℕ) (w : ℕ) → fifo transmitPlaces (asyncWritten w b) ≡ fifo transmitPlaces b
+pub async-fifo : (b : List ℕ) (w : ℕ) → fifo transmitOffsets (asyncWritten w b) ≡ fifo transmitOffsets b
 async-fifo b w =
-    store-apart transmitPlaces (set b asyncMark 1) asyncWord w (omega arith) (omega arith)
-    ∙ store-apart transmitPlaces b asyncMark 1 (omega arith) (omega arith)
+    store-apart transmitOffsets (set b asyncMark 1) asyncWord w (omega arith) (omega arith)
+    ∙ store-apart transmitOffsets b asyncMark 1 (omega arith) (omega arith)
 
 -- ---- states
 
@@ -110,13 +110,13 @@ cases : {A : Type 0} (Q : A → Type 0) (t : Bool) {a c : A} → Q a → Q c →
 cases Q true x y = x
 cases Q false x y = y
 
-state-fifo : (b : List ℕ) (v : ℕ) → fifo transmitPlaces (set b state v) ≡ fifo transmitPlaces b
-state-fifo b v = store-apart transmitPlaces b state v (omega arith) (omega arith)
+state-fifo : (b : List ℕ) (v : ℕ) → fifo transmitOffsets (set b state v) ≡ fifo transmitOffsets b
+state-fifo b v = store-apart transmitOffsets b state v (omega arith) (omega arith)
 
 pub trigger-keeps : {b : List ℕ} → Usable b → Leaves b (afterTrigger b)
 trigger-keeps u = stored-state (unchanged u) running (omega arith)
 
-pub trigger-fifo : (b : List ℕ) → fifo transmitPlaces (afterTrigger b) ≡ fifo transmitPlaces b
+pub trigger-fifo : (b : List ℕ) → fifo transmitOffsets (afterTrigger b) ≡ fifo transmitOffsets b
 trigger-fifo b = state-fifo b running
 
 -- a pause sets the state or changes nothing
@@ -128,8 +128,8 @@ pause-cases b Q x y =
 pub pause-keeps : {b : List ℕ} → Usable b → Leaves b (afterPause b)
 pause-keeps {b} u = pause-cases b (Leaves b) (stored-state (unchanged u) paused (omega arith)) (unchanged u)
 
-pub pause-fifo : (b : List ℕ) → fifo transmitPlaces (afterPause b) ≡ fifo transmitPlaces b
-pause-fifo b = pause-cases b (λ c. fifo transmitPlaces c ≡ fifo transmitPlaces b) (state-fifo b paused) refl
+pub pause-fifo : (b : List ℕ) → fifo transmitOffsets (afterPause b) ≡ fifo transmitOffsets b
+pause-fifo b = pause-cases b (λ c. fifo transmitOffsets c ≡ fifo transmitOffsets b) (state-fifo b paused) refl
 
 -- ---- a step
 
@@ -137,17 +137,17 @@ pause-fifo b = pause-cases b (λ c. fifo transmitPlaces c ≡ fifo transmitPlace
 pub record Sends (b : List ℕ) (o : Output) : Type 0 where
   pub some : 0 < word b transmitLevel
   pub output : o ≡ FifoWord (asSent (word b parity) (oldestWord b)) (word b rate)
-  pub oldest : fifo transmitPlaces b .held ≡ (oldestWord b ∷ []) ∷ drop 1 (fifo transmitPlaces b .held)
+  pub oldest : fifo transmitOffsets b .held ≡ (oldestWord b ∷ []) ∷ drop 1 (fifo transmitOffsets b .held)
   pub aside : asSent (word b parity) (oldestWord b) % 2 ^ 31 ≡ oldestWord b % 2 ^ 31
 
 -- what holds of a step from b to c with the output o
 record Steps (b : List ℕ) (o : Output) (c : List ℕ) : Type 0 where
   leaves : Leaves b c
-  transmit : fifo transmitPlaces c ≡ cond (isFifoWord o) (gives counted (fifo transmitPlaces b)) (fifo transmitPlaces b)
+  transmit : fifo transmitOffsets c ≡ cond (isFifoWord o) (gives counted (fifo transmitOffsets b)) (fifo transmitOffsets b)
   sends : isFifoWord o ≡ true → Sends b o
 
 -- a step that gives no word of the FIFO and leaves it
-none-sent : {b c : List ℕ} {o : Output} → isFifoWord o ≡ false → Leaves b c → fifo transmitPlaces c ≡ fifo transmitPlaces b → Steps b o c
+none-sent : {b c : List ℕ} {o : Output} → isFifoWord o ≡ false → Leaves b c → fifo transmitOffsets c ≡ fifo transmitOffsets b → Steps b o c
 none-sent n l e = record { leaves = l; transmit = rw n e; sends = λ s. absurd (let z : _≡_ {A = ℕ} 0 1 = cc in omega arith) }
 
 -- a fact of both cases of a test, of an output and a block
@@ -159,7 +159,7 @@ module _ {b : List ℕ} (u : Usable b) where
   quiet : Steps b Quiet b
   quiet = none-sent refl (unchanged u) refl
 
-  taken : word b transmitLevel ≢ 0 → Steps b (FifoWord (asSent (word b parity) (oldestWord b)) (word b rate)) (entryTaken transmitPlaces b)
+  taken : word b transmitLevel ≢ 0 → Steps b (FifoWord (asSent (word b parity) (oldestWord b)) (word b rate)) (entryTaken transmitOffsets b)
   unfolding leasts greatests words
   taken h =
       let some : 0 < word b transmitLevel = omega arith in
@@ -172,7 +172,7 @@ module _ {b : List ℕ} (u : Usable b) where
             (stored (stored-level (unchanged u) (word b transmitLevel - 1) (omega (arith, at-most u transmitLevel (omega arith))))
             transmitPosition position (omega arith) (λ _. in-range transmitPosition position zero-le (omega arith)))
             transmitSent _ (omega arith) (omega arith);
-        transmit = take-law transmitPlaces transmit-proper b (u .whole) some;
+        transmit = take-law transmitOffsets transmit-proper b (u .whole) some;
         sends = λ s. record {
           some = some;
           output = refl;
@@ -186,7 +186,7 @@ module _ {b : List ℕ} (u : Usable b) where
   send-steps = go (eqb (word b transmitLevel) 0) refl
     where
       go : (t : Bool) → eqb (word b transmitLevel) 0 ≡ t
-          → Steps b (cond t Quiet (FifoWord (asSent (word b parity) (oldestWord b)) (word b rate))) (cond t b (entryTaken transmitPlaces b))
+          → Steps b (cond t Quiet (FifoWord (asSent (word b parity) (oldestWord b)) (word b rate))) (cond t b (entryTaken transmitOffsets b))
       go true e = quiet
       go false e = taken (eqb-false (word b transmitLevel) 0 e)
 
@@ -209,7 +209,7 @@ module _ {b : List ℕ} (u : Usable b) where
       (stored-mark (stored-address (stored-state (unchanged u) _ (step-state (place b) (word b parity) (command b) (message b) (at-most u state (omega arith))))
       _ (step-address (place b) (word b parity) (command b) (message b) (at-most u address (omega arith))))
       _ (step-waiting (place b) (word b parity) (command b) (message b) (at-most u asyncMark (omega arith))))
-      (store-apart transmitPlaces _ asyncMark _ (omega arith) (omega arith) ∙ store-apart transmitPlaces _ address _ (omega arith) (omega arith)
+      (store-apart transmitOffsets _ asyncMark _ (omega arith) (omega arith) ∙ store-apart transmitOffsets _ address _ (omega arith) (omega arith)
       ∙ state-fifo b _)
 
   steps : Steps b (stepOutput b) (stepAfter b)
@@ -223,7 +223,7 @@ module _ {b : List ℕ} (u : Usable b) where
   step-keeps = steps .leaves
 
   -- the oldest is taken out where the output is a word of the FIFO; else the FIFO stays
-  pub step-fifo : fifo transmitPlaces (stepAfter b) ≡ cond (isFifoWord (stepOutput b)) (gives counted (fifo transmitPlaces b)) (fifo transmitPlaces b)
+  pub step-fifo : fifo transmitOffsets (stepAfter b) ≡ cond (isFifoWord (stepOutput b)) (gives counted (fifo transmitOffsets b)) (fifo transmitOffsets b)
   step-fifo = steps .transmit
 
   pub step-sends : isFifoWord (stepOutput b) ≡ true → Sends b (stepOutput b)

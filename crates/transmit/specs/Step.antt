@@ -6,7 +6,7 @@ use lib.Dec.{eqb}
 use lib.ListN.{getD, set}
 use Rattle.word.specs.Parity.{asSent}
 use Rattle.block.specs.Layout.{word, transmitter, parity, transmitMode, rate, transmitLevel, state, address, asyncMark, asyncWord, messageRam, scheduleRam}
-use Rattle.block.specs.Fifos.{transmitPlaces, oldestEntry, entryTaken}
+use Rattle.block.specs.Fifos.{transmitOffsets, oldestEntry, entryTaken}
 use Rattle.block.specs.Memories.{ramRead}
 use Rattle.status.specs.Status.{interruptSignal}
 use Rattle.schedule.specs.Codes.{idle, running, paused, messageAddress}
@@ -21,14 +21,14 @@ use Rattle.transmit.specs.States.{immediate, triggered}
 
 -- the oldest word: an entry has one
 abbrev pub oldestWord : List ℕ → ℕ
-oldestWord b = getD (oldestEntry transmitPlaces b) 0 0
+oldestWord b = getD (oldestEntry transmitOffsets b) 0 0
 
 -- "the oldest word and a gap of the rate; quiet if empty"
 unfoldable pub sendOutput : List ℕ → Output
 sendOutput b = cond (eqb (word b transmitLevel) 0) Quiet (FifoWord (asSent (word b parity) (oldestWord b)) (word b rate))
 
 unfoldable pub sendAfter : List ℕ → List ℕ
-sendAfter b = cond (eqb (word b transmitLevel) 0) b (entryTaken transmitPlaces b)
+sendAfter b = cond (eqb (word b transmitLevel) 0) b (entryTaken transmitOffsets b)
 
 -- "Immediate: unless paused"
 unfoldable pub immediateOutput : List ℕ → Output
