@@ -2,6 +2,9 @@
 //!
 //! Most lists begin with a power-up and turn receivers and transmitters on, so that a good share of the calls
 //! is accepted. Some lend short memory, some the first words of a longer memory, and in some others change words.
+//!
+//! Between single calls stand runs: calls in an order that leads to a rule which single calls meet seldom.
+//! `tests/reached.rs` counts how often each such rule is met.
 
 use crate::calls::Item;
 use crate::layout::*;
@@ -122,6 +125,19 @@ const AIMS: [(u32, u32); 22] = [
     (0, 127),
 ];
 
+/// Ranges of the module part, word by word; the stamp may hold anything.
+const PART_AIMS: [(u32, u32); 16] = {
+    let mut aims = [(0, 65_536); 16];
+    aims[COUNT] = (1, 12);
+    aims[STAMP] = (0, u32::MAX);
+    aims[RESOLUTION] = (0, 3);
+    aims[THRESHOLD] = (1, 65_535);
+    aims
+};
+
+/// How many of 100 draws are runs, for each theme.
+const RUNS: [u32; 5] = [13, 7, 15, 5, 5];
+
 /// What a list is mostly about.
 #[derive(Clone, Copy, PartialEq)]
 enum Theme {
@@ -155,11 +171,11 @@ struct Writer {
 /// The list of a seed, of about `calls` calls.
 pub fn list(seed: u64, calls: usize) -> List {
     let mut dice = Dice::new(seed);
-    let kind = match dice.below(20) {
-        0..=9 => Memory::Clean,
-        10 => Memory::Unpowered,
-        11 | 12 => Memory::Short,
-        13..=16 => Memory::Damaged,
+    let kind = match dice.below(40) {
+        0..=19 => Memory::Clean,
+        20 => Memory::Unpowered,
+        21..=23 => Memory::Short,
+        24..=34 => Memory::Damaged,
         _ => Memory::Lent,
     };
     let theme = match dice.below(6) {
@@ -194,7 +210,7 @@ pub fn list(seed: u64, calls: usize) -> List {
     }
     while writer.events.len() < calls {
         match kind {
-            Memory::Damaged if writer.dice.chance(6) => writer.damage(),
+            Memory::Damaged if writer.dice.chance(16) => writer.damage(),
             Memory::Short if writer.dice.chance(10) => writer.stored_count_or_power_up(),
             Memory::Lent if writer.dice.chance(6) => writer.lend(),
             Memory::Unpowered if writer.dice.chance(1) => {
@@ -230,6 +246,20 @@ impl Writer {
         self.call(op, channel, a, b);
     }
 
+    /// An async word that is to wait.
+    fn async_word(&mut self, channel: u32) {
+        let word = self.data_word();
+        self.loose(134, channel, word);
+    }
+
+    /// Receivers and transmitters on, all else as it is.
+    fn switch_on(&mut self) {
+        for channel in 1..=self.count {
+            self.call(32, channel, 1, 0);
+            self.call(33, channel, 1, 0);
+        }
+    }
+
     fn set_up(&mut self) {
         for channel in 1..=self.count {
             let off = u32::from(self.dice.chance(8));
@@ -237,7 +267,7 @@ impl Writer {
             let off = u32::from(self.dice.chance(8));
             self.call(33, channel, 1 - off, 0);
             for setting in 2..12 {
-                if self.dice.chance(70) {
+                if self.dice.chance(50) {
                     let value = self.sound_value(setting);
                     self.call(32 + setting, channel, value, 0);
                 }
@@ -286,8 +316,40 @@ impl Writer {
             (_, 0..=4) => self.dice.below(8),
             _ => self.dice.below(4096),
         };
-        let other = if self.dice.chance(30) { self.dice.word() & 0xFFFF_0E00 } else { 0 };
-        other | code << 12 | low
+        self.other_bits() | code << 12 | low
+    }
+
+    /// A command that sends nothing: stop, pause, interrupt, a jump back, and the reserved ones.
+    fn silent_command(&mut self) -> u32 {
+        let command = match self.dice.below(6) {
+            0 => 0x0000,
+            1 => 0x4000,
+            2 => 0x5000,
+            3 => 0x6000 | self.dice.one_of(&[0, 0, 1, 255]),
+            4 => 0x6100 | self.dice.one_of(&[0, 0, 1, 3, 254, 255]),
+            _ => (7 + self.dice.below(9)) << 12,
+        };
+        self.other_bits() | command
+    }
+
+    /// Bits of a command that are ignored.
+    fn other_bits(&mut self) -> u32 {
+        if self.dice.chance(30) {
+            self.dice.word() & 0xFFFF_0E00
+        } else {
+            0
+        }
+    }
+
+    /// A gap in message RAM: most around 40, some at or beside an end of the range.
+    fn gap(&mut self) -> u32 {
+        match self.dice.below(11) {
+            0..=5 => self.dice.one_of(&[36, 37, 38, 39, 39, 39, 39, 40, 40, 40, 40, 41, 42, 43, 44]),
+            6 => self.dice.below(6),
+            7 => 1_048_574 + self.dice.below(4),
+            8 | 9 => self.dice.word(),
+            _ => self.dice.below(200),
+        }
     }
 
     /// A value within the setting's range, small FIFO sizes first.
@@ -318,23 +380,34 @@ impl Writer {
     /// An argument that may be outside its range.
     fn argument(&mut self, greatest: u32) -> u32 {
         match self.dice.below(20) {
-            0 => greatest.wrapping_add(1),
-            1 => self.dice.one_of(&EDGES),
-            2 => greatest,
+            0 | 1 => greatest + 1,
+            2 => self.dice.one_of(&EDGES),
+            3 => greatest,
             _ => self.dice.below(greatest + 1),
         }
     }
 
+    /// A number in a range, at an end of it or one beside it.
+    fn end_of(&mut self, (least, greatest): (u32, u32)) -> u32 {
+        match self.dice.below(6) {
+            0 => least,
+            1 => greatest,
+            2 | 3 if least > 0 => least - 1,
+            _ => greatest.wrapping_add(1),
+        }
+    }
+
     fn index(&mut self) -> u32 {
-        if self.dice.chance(75) {
-            self.dice.one_of(&self.indices.clone())
-        } else {
-            self.argument(1023)
+        match self.dice.below(16) {
+            0 | 1 => 1024,
+            2..=4 => self.argument(1023),
+            _ => self.dice.one_of(&self.indices.clone()),
         }
     }
 
     fn address(&mut self) -> u32 {
         match self.dice.below(4) {
+            0 if self.dice.chance(50) => 256,
             0 => self.argument(255),
             1 => 248 + self.dice.below(8),
             _ => self.dice.below(8),
@@ -351,20 +424,41 @@ impl Writer {
         }
     }
 
+    /// A run or a single call.
     fn any_call(&mut self) {
+        let group = self.group();
+        if self.dice.chance(RUNS[group as usize]) {
+            self.run(group);
+        } else {
+            self.call_of(group);
+        }
+    }
+
+    fn single_call(&mut self) {
+        let group = self.group();
+        self.call_of(group);
+    }
+
+    /// A theme: in most cases that of the list.
+    fn group(&mut self) -> u32 {
+        if self.theme == Theme::Mixed || self.dice.chance(35) {
+            self.dice.below(5)
+        } else {
+            self.theme as u32
+        }
+    }
+
+    fn call_of(&mut self, group: u32) {
         let channel = self.channel();
-        let group =
-            if self.theme == Theme::Mixed || self.dice.chance(35) { self.dice.below(5) } else { self.theme as u32 };
         match (group, self.dice.below(200)) {
             (_, 0) => self.anything(),
-            (_, 1..=12) => self.module_wide(),
-            (_, 13..=20) => self.write_setting(channel),
-            (_, 21..=23) => {
+            (_, 1..=14) => self.module_wide(),
+            (_, 15..=46) => self.write_setting(channel),
+            (_, 47..=54) => {
                 let setting = self.dice.below(12);
                 self.loose(64 + setting, channel, 0);
             }
-            (_, 24 | 25) => self.burst(channel),
-            (_, 26..=28) => {
+            (_, 55..=58) => {
                 let result = self.argument(1);
                 self.loose(145, channel, result);
             }
@@ -372,6 +466,32 @@ impl Writer {
             (1, _) => self.transmit_fifo(channel),
             (2, _) => self.scheduled(channel),
             _ => self.status(channel),
+        }
+    }
+
+    /// A run on a channel that is there.
+    fn run(&mut self, group: u32) {
+        let channel = 1 + self.dice.below(self.count);
+        match (group, self.dice.below(100)) {
+            (_, 0 | 1) => self.burst(channel),
+            (0, 2) => self.full_receive_fifo(channel),
+            (0, 3..=31) => self.small_receive_fifo(channel),
+            (0, 32..=56) => self.held_entries(channel),
+            (0, 57..=77) => self.mailboxes(channel),
+            (0, _) => self.stamps(channel),
+            (1, 2..=4) => self.full_transmit_fifo(channel),
+            (1, _) => self.states(channel),
+            (2, 2..=39) => self.gaps(channel),
+            (2, 40..=87) => self.last_command(channel),
+            (2, _) => self.interrupts(channel),
+            (_, 2..=36) => self.latches(channel),
+            _ => self.samples(channel),
+        }
+        // Settings of a run do not last.
+        for _ in 0..2 {
+            let setting = self.dice.below(12);
+            let value = self.sound_value(setting);
+            self.loose(32 + setting, channel, value);
         }
     }
 
@@ -389,26 +509,23 @@ impl Writer {
                 self.call(1, channel, self.count, 0);
                 self.set_up();
             }
-            1 => {
-                let count = self.dice.one_of(&[0, 13, 12, 1, 0xFFFF_FFFF]);
+            1 | 2 => {
+                let count = self.dice.one_of(&[0, 0, 13, 13, 12, 12, 1, 0xFFFF_FFFF]);
                 // A smaller count that is accepted leaves the other channels unknown from here on.
                 if count == 1 {
                     self.count = 1;
                 }
                 self.call(1, channel, count, 0);
             }
-            2 | 3 => {
-                self.loose(2, channel, 0);
-                self.set_up();
-            }
-            4..=13 => {
+            3..=7 => self.module_reset(),
+            8..=13 => {
                 let ticks = if self.dice.chance(50) { self.dice.word() } else { self.dice.one_of(&EDGES) };
                 self.loose(3, channel, ticks);
             }
             14 | 15 => self.loose(4, channel, 0),
             16..=20 => self.loose(5, channel, 0),
             21..=25 => {
-                let value = self.argument(3);
+                let value = self.dice.one_of(&[0, 1, 2, 3, 4, 0xFFFF_FFFF]);
                 self.loose(6, channel, value);
             }
             26..=29 => self.loose(7, channel, 0),
@@ -420,38 +537,374 @@ impl Writer {
         }
     }
 
+    /// Module reset, half of the time while a schedule runs and an async word waits.
+    fn module_reset(&mut self) {
+        if self.dice.chance(50) {
+            let channel = 1 + self.dice.below(self.count);
+            self.loose(39, channel, 2);
+            self.async_word(channel);
+            self.loose(135, channel, 0);
+        }
+        self.loose(2, 0, 0);
+        if self.dice.chance(30) {
+            self.set_up();
+        } else {
+            self.switch_on();
+        }
+    }
+
     fn write_setting(&mut self, channel: u32) {
         let setting = self.dice.below(12);
-        let value = if self.dice.chance(80) { self.sound_value(setting) } else { self.dice.one_of(&EDGES) };
+        let value = match self.dice.below(20) {
+            0 | 1 => self.dice.one_of(&EDGES),
+            2..=10 => self.end_of(AIMS[setting as usize]),
+            _ => self.sound_value(setting),
+        };
         self.loose(32 + setting, channel, value);
         // A receiver or transmitter that is off makes a dull list: most come on again.
         if setting < 2 && self.dice.chance(80) {
-            self.any_call();
+            self.single_call();
             self.loose(32 + setting, channel, 1);
         }
     }
 
-    /// Many calls of one kind: FIFOs full, schedules run through.
+    // Runs.
+
+    /// Many calls of one kind.
     fn burst(&mut self, channel: u32) {
-        let (op, times) = match self.dice.below(8) {
-            0 => (133, 256),
-            1 => (128, 260),
-            2 | 3 => (128, 12),
-            4 => (143, 10),
-            _ => (138, 12),
-        };
-        for time in 0..times {
-            if op == 138 && time % 4 == 0 {
-                self.loose(135, channel, 0);
+        match self.dice.below(4) {
+            0 => {
+                for _ in 0..10 {
+                    self.loose(143, channel, 1);
+                }
             }
-            if op == 138 && time % 4 < 2 {
-                let word = self.data_word();
-                self.loose(133, channel, word);
+            1 => self.arrivals(channel, 12),
+            _ => {
+                for time in 0..12 {
+                    if time % 4 == 0 {
+                        self.loose(135, channel, 0);
+                    }
+                    if time % 4 < 2 {
+                        self.transmit_words(channel, 1);
+                    }
+                    self.loose(138, channel, 0);
+                }
             }
-            let a = if op == 143 { 1 } else { self.data_word() };
-            self.loose(op, channel, a);
         }
     }
+
+    fn arrivals(&mut self, channel: u32, times: u32) {
+        for _ in 0..times {
+            let word = self.data_word();
+            self.loose(128, channel, word);
+        }
+    }
+
+    fn transmit_words(&mut self, channel: u32, times: u32) {
+        for _ in 0..times {
+            let word = self.data_word();
+            self.loose(133, channel, word);
+        }
+    }
+
+    /// In most cases receiver on and match off; match on has one index in its set.
+    fn open_receiver(&mut self, channel: u32) {
+        let on = u32::from(self.dice.chance(93));
+        let matching = u32::from(self.dice.chance(20));
+        self.loose(32, channel, on);
+        self.loose(35, channel, matching);
+        if matching == 1 {
+            self.call(131, channel, self.indices[0], 1);
+        }
+    }
+
+    /// The receive FIFO at its greatest size, filled, and then arrivals and reads; in some cases it is emptied.
+    fn full_receive_fifo(&mut self, channel: u32) {
+        for (setting, value) in [(0, 1), (3, 0), (8, 255)] {
+            self.loose(32 + setting, channel, value);
+        }
+        self.mode_and_kind(channel);
+        self.arrivals(channel, 255);
+        for _ in 0..20 {
+            self.arrivals(channel, 3);
+            self.loose(129, channel, 0);
+        }
+        if self.dice.chance(25) {
+            for _ in 0..255 {
+                self.loose(129, channel, 0);
+            }
+        }
+    }
+
+    /// Either receive mode, and either FIFO kind.
+    fn mode_and_kind(&mut self, channel: u32) {
+        for op in [37, 38] {
+            let value = self.dice.below(2);
+            self.loose(op, channel, value);
+        }
+    }
+
+    /// A receive FIFO of one to three, with more arrivals than reads.
+    fn small_receive_fifo(&mut self, channel: u32) {
+        self.open_receiver(channel);
+        self.mode_and_kind(channel);
+        let size = 1 + self.dice.below(3);
+        self.loose(40, channel, size);
+        for _ in 0..2 {
+            self.arrivals(channel, 6);
+            self.loose(129, channel, 0);
+        }
+    }
+
+    /// The transmit FIFO filled, and then a word sent and two written, again and again; in some cases it is emptied.
+    fn full_transmit_fifo(&mut self, channel: u32) {
+        let mode = self.dice.below(2);
+        self.loose(33, channel, 1);
+        self.loose(39, channel, mode);
+        self.loose(135, channel, 0);
+        self.transmit_words(channel, 255);
+        for _ in 0..25 {
+            self.loose(138, channel, 0);
+            self.transmit_words(channel, 2);
+        }
+        if self.dice.chance(25) {
+            for _ in 0..255 {
+                self.loose(138, channel, 0);
+            }
+        }
+    }
+
+    /// Some entries held: sizes at and beside the level, and the receive mode written.
+    fn held_entries(&mut self, channel: u32) {
+        self.loose(145, channel, 0);
+        for (setting, value) in [(0, 1), (3, 0), (8, 255)] {
+            self.loose(32 + setting, channel, value);
+        }
+        let level = 2 + self.dice.below(3);
+        self.arrivals(channel, level);
+        for _ in 0..5 {
+            let size = (level + 1).saturating_sub(self.dice.below(5));
+            self.loose(40, channel, size);
+        }
+        for _ in 0..2 {
+            let mode = self.dice.below(2);
+            self.loose(37, channel, mode);
+            self.arrivals(channel, 1);
+        }
+    }
+
+    /// Mailbox mode: arrivals, each mailbox read at once and again, and one read in FIFO mode.
+    fn mailboxes(&mut self, channel: u32) {
+        self.open_receiver(channel);
+        self.loose(34, channel, 1);
+        self.loose(37, channel, 1);
+        for _ in 0..4 {
+            let word = self.data_word();
+            self.loose(128, channel, word);
+            for _ in 0..self.dice.below(3) {
+                self.loose(130, channel, word % 1024);
+            }
+        }
+        let word = self.data_word();
+        self.loose(128, channel, word);
+        self.loose(37, channel, 0);
+        self.loose(130, channel, word % 1024);
+    }
+
+    /// Stamps of arrivals while the counter rolls over.
+    fn stamps(&mut self, channel: u32) {
+        self.open_receiver(channel);
+        self.loose(36, channel, 1);
+        for _ in 0..3 {
+            let ticks = 0x8000_0000 | self.dice.word();
+            self.loose(3, channel, ticks);
+            self.loose(5, channel, 0);
+            self.arrivals(channel, 1);
+        }
+        self.loose(129, channel, 0);
+        if self.dice.chance(30) {
+            self.loose(4, channel, 0);
+        }
+    }
+
+    /// Trigger, pause, stop and steps in one transmit mode, with few words to send.
+    fn states(&mut self, channel: u32) {
+        let on = u32::from(self.dice.chance(93));
+        let mode = self.dice.one_of(&[0, 1, 1, 2]);
+        self.loose(145, channel, 0);
+        self.loose(33, channel, on);
+        self.loose(39, channel, mode);
+        let words = self.dice.below(2);
+        self.transmit_words(channel, words);
+        for _ in 0..12 {
+            let op = self.dice.one_of(&[135, 135, 135, 135, 136, 136, 137, 138, 138, 138, 138, 138]);
+            self.loose(op, channel, 0);
+        }
+    }
+
+    /// Scheduled mode, at command 0.
+    fn scheduled_from_0(&mut self, channel: u32) {
+        if self.dice.chance(40) {
+            self.loose(33, channel, 1);
+        }
+        self.loose(39, channel, 2);
+        self.loose(137, channel, 0);
+    }
+
+    /// A short schedule of gaps around 40 and at the ends of their range, with async words written between the steps.
+    fn gaps(&mut self, channel: u32) {
+        self.scheduled_from_0(channel);
+        for address in 0..3 {
+            let code = self.dice.one_of(&[1, 2, 2, 2, 2, 3, 3]);
+            let command = self.other_bits() | code << 12 | address;
+            let word = if code == 1 { self.data_word() } else { self.gap() };
+            self.call(139, channel, address, command);
+            self.call(141, channel, address, word);
+        }
+        let last = self.silent_command();
+        self.call(139, channel, 3, last);
+        self.call(139, channel, 4, 0x6000);
+        for step in 0..10 + self.dice.below(4) {
+            if self.dice.chance(60) {
+                self.async_word(channel);
+            }
+            if step % 4 == 0 {
+                let (address, gap) = (self.dice.below(3), self.gap());
+                self.call(141, channel, address, gap);
+                self.loose(135, channel, 0);
+            }
+            self.loose(138, channel, 0);
+        }
+        self.leave_schedule(channel);
+    }
+
+    /// What drops a waiting async word or keeps it; the read shows which.
+    fn leave_schedule(&mut self, channel: u32) {
+        for _ in 0..2 {
+            self.async_word(channel);
+            match self.dice.below(8) {
+                // Also when it is off.
+                0 | 1 => {
+                    self.loose(33, channel, 0);
+                    self.async_word(channel);
+                    self.loose(33, channel, 0);
+                }
+                2 | 3 => {
+                    let mode = self.dice.below(3);
+                    self.loose(39, channel, mode);
+                }
+                4 => self.loose(137, channel, 0),
+                _ => {
+                    let result = self.dice.below(2);
+                    self.loose(145, channel, result);
+                }
+            }
+            self.loose(156, channel, 0);
+        }
+        self.loose(33, channel, 1);
+    }
+
+    /// The schedule's last command, reached by a jump; triggers and steps behind it show where it went.
+    fn last_command(&mut self, channel: u32) {
+        self.scheduled_from_0(channel);
+        self.call(139, channel, 0, 0x60FF);
+        for _ in 0..6 {
+            let command = match self.dice.below(11) {
+                0 => 0x1000 | self.dice.below(8),
+                1 => 0x2000 | self.dice.below(8),
+                2 => 0x3000 | self.dice.below(8),
+                // Pause and jump have their own rules here.
+                3 => 0x4000,
+                4 => 0x6000 | self.dice.one_of(&[0, 0, 1, 255]),
+                _ => self.silent_command(),
+            };
+            self.call(139, channel, 255, command);
+            if self.dice.chance(30) {
+                self.async_word(channel);
+            }
+            for op in [135, 138, 138] {
+                self.loose(op, channel, 0);
+            }
+        }
+        self.loose(138, channel, 0);
+    }
+
+    /// Interrupt commands, with the latches cleared between them.
+    fn interrupts(&mut self, channel: u32) {
+        self.scheduled_from_0(channel);
+        self.call(139, channel, 0, 0x5000);
+        self.call(139, channel, 1, 0x6000);
+        self.level_mask(channel);
+        self.loose(135, channel, 0);
+        for _ in 0..4 {
+            self.loose(147, channel, 127);
+            for op in [138, 146, 138] {
+                self.loose(op, channel, 0);
+            }
+        }
+    }
+
+    /// All by edge, all by level, or some.
+    fn level_mask(&mut self, channel: u32) {
+        let some = self.dice.below(128);
+        let mask = self.dice.one_of(&[0, 127, some]);
+        self.loose(150, channel, mask);
+    }
+
+    /// Conditions 0 to 4 begin and end in small FIFOs, with the latches cleared before and while they hold.
+    fn latches(&mut self, channel: u32) {
+        self.loose(145, channel, 0);
+        self.open_receiver(channel);
+        for (setting, value) in [(1, 1), (2, 1), (7, 0), (8, 2), (9, 1), (10, 0)] {
+            self.loose(32 + setting, channel, value);
+        }
+        self.level_mask(channel);
+        for _ in 0..2 {
+            self.transmit_words(channel, 2);
+            self.loose(147, channel, 127);
+            // The thresholds let conditions 2 and 0 begin too.
+            if self.dice.chance(50) {
+                self.loose(42, channel, 255);
+                self.loose(42, channel, 0);
+            }
+            self.arrivals(channel, 2);
+            for op in [138, 138, 146] {
+                self.loose(op, channel, 0);
+            }
+            let mask = self.dice.one_of(&[1, 2, 4, 8, 127]);
+            self.loose(147, channel, mask);
+            self.loose(152, channel, 0);
+            if self.dice.chance(50) {
+                self.loose(41, channel, 255);
+                self.loose(41, channel, 0);
+            }
+            self.loose(145, channel, 0);
+        }
+    }
+
+    /// Samples around the fault threshold, which is written anew at times, with the latch cleared at times.
+    fn samples(&mut self, channel: u32) {
+        self.level_mask(channel);
+        let threshold = 1 + self.dice.below(5);
+        self.loose(8, channel, threshold);
+        self.loose(144, channel, 0);
+        for _ in 0..threshold / 2 {
+            self.loose(143, channel, 1);
+        }
+        for _ in 0..12 {
+            match self.dice.below(10) {
+                0..=3 => self.loose(143, channel, 1),
+                4..=6 => self.loose(143, channel, 0),
+                7 => self.loose(147, channel, 64),
+                _ => {
+                    let threshold = 1 + self.dice.below(5);
+                    self.loose(8, channel, threshold);
+                }
+            }
+        }
+    }
+
+    // Single calls.
 
     fn receive(&mut self, channel: u32) {
         let op = self.dice.one_of(&[128, 128, 128, 128, 128, 128, 129, 129, 129, 130, 130, 131, 132, 146, 153, 154]);
@@ -484,16 +937,11 @@ impl Writer {
     }
 
     fn scheduled(&mut self, channel: u32) {
-        if self.dice.chance(4) {
-            self.last_command(channel);
-            return;
-        }
         // A short run: scheduled mode, an async word, a trigger and some steps.
-        if self.dice.chance(15) {
+        if self.dice.chance(10) {
             self.loose(39, channel, 2);
             if self.dice.chance(60) {
-                let word = self.data_word();
-                self.loose(134, channel, word);
+                self.async_word(channel);
             }
             for _ in 0..1 + self.dice.below(3) {
                 self.loose(135, channel, 0);
@@ -503,9 +951,9 @@ impl Writer {
             }
             return;
         }
-        let op = self
-            .dice
-            .one_of(&[138, 138, 138, 138, 138, 134, 135, 135, 135, 139, 139, 141, 141, 136, 137, 140, 142, 156, 39]);
+        let op = self.dice.one_of(&[
+            138, 138, 138, 138, 134, 135, 135, 139, 139, 141, 141, 136, 137, 140, 140, 142, 142, 156, 156, 39,
+        ]);
         match op {
             39 => self.loose(op, channel, 2),
             139 => {
@@ -525,18 +973,6 @@ impl Writer {
                 let word = self.data_word();
                 self.loose(op, channel, word);
             }
-        }
-    }
-
-    /// The schedule's last command, reached by a jump; a trigger and a step behind it show where it went.
-    fn last_command(&mut self, channel: u32) {
-        let command = self.command();
-        self.loose(39, channel, 2);
-        self.loose(137, channel, 0);
-        self.call(139, channel, 0, 0x60FF);
-        self.call(139, channel, 255, command);
-        for op in [135, 138, 138, 138, 135, 138] {
-            self.loose(op, channel, 0);
         }
     }
 
@@ -563,9 +999,9 @@ impl Writer {
     fn damage(&mut self) {
         let channel = 1 + self.dice.below(self.count);
         let first = block(channel);
-        match self.dice.below(13) {
+        match self.dice.below(20) {
             // Within its range: states that a list alone reaches late.
-            0..=3 => {
+            0..=2 => {
                 let word = self.dice.below(22);
                 let (least, greatest) = AIMS[word as usize];
                 let near = self.dice.below(3);
@@ -579,20 +1015,10 @@ impl Writer {
                     self.overwrite(first + SIZE, 255);
                 }
             }
-            4 => {
-                let counter = COUNTERS + channel as usize - 1;
-                let value = 65_536 - self.dice.below(4);
-                self.overwrite(counter, value);
-                self.overwrite(THRESHOLD, 65_535);
-            }
-            // Counts near the roll over.
-            5 => {
-                let word = RX_ACCEPTED + self.dice.below(7) as usize;
-                let value = self.dice.below(4).wrapping_sub(4);
-                self.overwrite(first + word, value);
-            }
+            3 | 4 => self.counter_near_its_end(channel),
+            5 | 6 => self.fifos_near_their_ends(channel),
             // Words that may hold anything.
-            6 | 7 => {
+            7 | 8 => {
                 let word = RX_RING + self.dice.below((BLOCK_WORDS - RX_RING) as u32) as usize;
                 let value = self.dice.word();
                 self.overwrite(first + word, value);
@@ -603,9 +1029,20 @@ impl Writer {
                     let status = self.dice.word();
                     self.overwrite(first + RX_RING + 3 * slot, status);
                 }
+                self.loose(130, channel, self.indices[0]);
+                self.loose(129, channel, 0);
+            }
+            // An async word that waits outside scheduled mode.
+            9 => {
+                let mode = self.dice.below(2);
+                self.overwrite(first + TRANSMIT_MODE, mode);
+                self.overwrite(first + ASYNC_MARK, 1);
+                for op in [134, 156, 138, 134] {
+                    self.loose(op, channel, 0);
+                }
             }
             // A receive level at or above the size; repaired after some calls.
-            11 => {
+            10 => {
                 let size = 1 + self.dice.below(4);
                 let above = self.dice.below(2);
                 self.overwrite(first + SIZE, size);
@@ -616,37 +1053,12 @@ impl Writer {
                 }
                 self.overwrite(first + SIZE, 255);
             }
-            // Any number in a word with a range; repaired after some calls.
-            8..=10 => {
-                let in_block = self.dice.chance(65);
-                let word = if in_block { self.dice.below(22) as usize } else { self.dice.below(16) as usize };
-                let value = if self.dice.chance(80) { self.dice.one_of(&EDGES) } else { self.dice.word() };
-                let (place, sound) = if in_block {
-                    (first + word, AIMS[word].0)
-                } else {
-                    (
-                        word,
-                        match word {
-                            COUNT => self.count,
-                            THRESHOLD => 5,
-                            _ => 0,
-                        },
-                    )
-                };
-                self.overwrite(place, value);
-                for _ in 0..1 + self.dice.below(6) {
-                    self.any_call();
-                }
-                self.overwrite(place, sound);
-                if place == first + SIZE {
-                    self.overwrite(first + SIZE, 255);
-                }
-            }
+            11..=18 => self.outside_its_range(channel),
             _ => {
                 let (word, value) = (self.dice.below(self.memory.len() as u32), self.dice.word());
                 self.overwrite(word as usize, value);
                 for _ in 0..3 {
-                    self.any_call();
+                    self.single_call();
                 }
                 self.call(1, 0, self.count, 0);
                 self.set_up();
@@ -654,8 +1066,87 @@ impl Writer {
         }
     }
 
+    /// Any number in a word with a range, most beside an end of it; repaired after some calls.
+    fn outside_its_range(&mut self, channel: u32) {
+        let in_block = self.dice.chance(70);
+        let (place, range) = if in_block {
+            let word = self.dice.below(22) as usize;
+            (block(channel) + word, AIMS[word])
+        } else {
+            // Twelve of the sixteen words are counters.
+            let word = if self.dice.chance(70) { self.dice.below(4) } else { self.dice.below(16) } as usize;
+            (word, PART_AIMS[word])
+        };
+        let value = match self.dice.below(10) {
+            0 => self.dice.word(),
+            1 | 2 => self.dice.one_of(&EDGES),
+            _ => self.end_of(range),
+        };
+        self.overwrite(place, value);
+        for _ in 0..3 {
+            self.refusable_call(channel);
+            self.refusable_call(channel);
+            self.single_call();
+        }
+        let sound = match place {
+            COUNT => self.count,
+            THRESHOLD => 5,
+            // No level is above the greatest size.
+            _ if place == block(channel) + SIZE => 255,
+            _ => range.0,
+        };
+        self.overwrite(place, sound);
+    }
+
+    /// A call that its argument or the channel's state may refuse too.
+    fn refusable_call(&mut self, channel: u32) {
+        let op = self.dice.one_of(&[40, 129, 129, 130, 133, 134, 134, 135, 139, 143, 145, 147, 3, 8]);
+        let a = self.dice.one_of(&EDGES);
+        self.loose(op, channel, a);
+    }
+
+    /// The fault counter beside 65,536, with the greatest threshold or the one before, and samples.
+    fn counter_near_its_end(&mut self, channel: u32) {
+        let counter = 65_536 - self.dice.below(4);
+        let threshold = 65_535 - self.dice.below(2);
+        self.overwrite(COUNTERS + channel as usize - 1, counter);
+        self.overwrite(THRESHOLD, threshold);
+        for _ in 0..12 {
+            let result = u32::from(self.dice.chance(50));
+            self.loose(143, channel, result);
+        }
+    }
+
+    /// Fate counts near the roll over and positions near the ring's end, and calls that move them.
+    fn fifos_near_their_ends(&mut self, channel: u32) {
+        let first = block(channel);
+        for count in RX_ACCEPTED..=TX_CLEARED {
+            let value = self.dice.below(2).wrapping_sub(2);
+            self.overwrite(first + count, value);
+        }
+        for position in [RX_POSITION, TX_POSITION] {
+            let value = 254 - self.dice.below(3);
+            self.overwrite(first + position, value);
+        }
+        self.overwrite(first + RX_LEVEL, 0);
+        self.open_receiver(channel);
+        for (setting, value) in [(1, 1), (6, 1), (7, 0), (8, 2)] {
+            self.loose(32 + setting, channel, value);
+        }
+        self.arrivals(channel, 4);
+        self.loose(129, channel, 0);
+        self.transmit_words(channel, 4);
+        for op in [138, 129, 138, 138] {
+            self.loose(op, channel, 0);
+        }
+        self.arrivals(channel, 2);
+        self.loose(145, channel, 0);
+    }
+
     fn stored_count_or_power_up(&mut self) {
-        let count = self.dice.one_of(&[0, 1, 1, 2, 2, 3, 4, 12, 13, 0xFFFF_FFFF]);
+        // The count whose need stands nearest to the lent words.
+        let nearest = ((self.memory.len() + 1).saturating_sub(MODULE_WORDS) / BLOCK_WORDS) as u32;
+        let count = self.dice.one_of(&[0, 1, 2, 3, 4, 12, 13, 0xFFFF_FFFF, nearest, nearest, nearest]);
         if self.dice.chance(50) {
             self.overwrite(COUNT, count);
         } else {
@@ -670,7 +1161,7 @@ impl Writer {
     fn lend(&mut self) {
         let whole = self.memory.len();
         let words = match self.dice.below(5) {
-            0 => self.dice.one_of(&[0, 1, 15, 16, 17]) as usize,
+            0 => self.dice.one_of(&[0, 1, 15, 15, 16, 17]) as usize,
             1 => self.dice.below(whole as u32) as usize,
             2 => need(1 + self.dice.below(self.count)) - 1,
             3 => need(1 + self.dice.below(self.count)),
@@ -678,7 +1169,7 @@ impl Writer {
         };
         self.events.push(Event::Lend { words: words.min(whole) });
         for _ in 0..1 + self.dice.below(5) {
-            self.any_call();
+            self.single_call();
         }
         self.events.push(Event::Lend { words: whole });
     }
