@@ -5,7 +5,7 @@ use std::collections::BTreeMap;
 use crate::calls::{kind, Call, Item, NO_CALL};
 use crate::engine::Engine;
 use crate::ledger::Ledger;
-use crate::lists::{list, Event, List};
+use crate::lists::{lists, Event, List};
 use crate::writes::stray_write;
 
 /// Calls in a list, about.
@@ -148,16 +148,16 @@ fn last(list: &List, said: &[Vec<u32>]) -> Vec<String> {
         .collect()
 }
 
-/// Runs lists from seed on until at least `calls` calls are done, or the engines differ.
+/// Runs the lists of a seed until at least `calls` calls are done, or the engines differ.
 pub fn compare(calls: u64, seed: u64, first: &mut dyn Engine, second: &mut dyn Engine) -> (Tally, Option<Difference>) {
     let mut tally = Tally::default();
-    let mut of_list = seed;
-    while tally.calls < calls {
-        let list = list(of_list, LIST_CALLS);
+    for list in lists(seed, LIST_CALLS) {
+        if tally.calls >= calls {
+            break;
+        }
         if let Err(difference) = run(&list, first, second, &mut tally) {
             return (tally, Some(difference));
         }
-        of_list = of_list.wrapping_add(1);
     }
     (tally, None)
 }

@@ -168,6 +168,11 @@ struct Writer {
     events: Vec<Event>,
 }
 
+/// The lists of a run, one after the other. Runs of other seeds have other lists, up to the millionth.
+pub fn lists(run: u64, calls: usize) -> impl Iterator<Item = List> {
+    (0..).map(move |place| list(run.wrapping_mul(1_000_000).wrapping_add(place), calls))
+}
+
 /// The list of a seed, of about `calls` calls.
 pub fn list(seed: u64, calls: usize) -> List {
     let mut dice = Dice::new(seed);

@@ -7,10 +7,10 @@ use std::io::{self, Read, Write};
 use std::process::ExitCode;
 use std::time::Instant;
 
-use second::compare::compare;
+use second::compare::{compare, LIST_CALLS};
 use second::engine::{AsModel, Engine, OnWords};
 use second::layout::need;
-use second::lists::{list, Event};
+use second::lists::{lists, Event};
 
 const USE: &str = "second compare --calls N --seed S | second list --calls N --seed S | second replay";
 
@@ -70,12 +70,12 @@ fn told(calls: u64, seed: u64, first: &mut dyn Engine, second: &mut dyn Engine) 
     ExitCode::FAILURE
 }
 
-/// The calls of one random list after the other, from the seed on, until there are enough.
+/// The calls of one random list of the seed after the other, until there are enough.
 fn write_list(calls: u64, seed: u64) -> io::Result<()> {
     let mut out = io::BufWriter::new(io::stdout().lock());
     let mut left = calls;
-    for seed in seed.. {
-        for event in list(seed, 400).events {
+    for list in lists(seed, LIST_CALLS) {
+        for event in list.events {
             if left == 0 {
                 return out.flush();
             }

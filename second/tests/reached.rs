@@ -4,7 +4,7 @@
 use second::calls::Item;
 use second::compare::LIST_CALLS;
 use second::layout::*;
-use second::lists::{list, Event};
+use second::lists::{lists, Event};
 use second::words;
 
 const CALLS: u64 = 200_000;
@@ -410,12 +410,11 @@ const NUMBERED_BY_OTHERS: &[NumberedRule] = &[
     }),
 ];
 
-/// Every call of the lists from this seed on; with changes by others as `compare` runs them, else as `replay` does.
+/// Every call of the lists of a seed; with changes by others as `compare` runs them, else as `replay` does.
 fn for_each_call(seed: u64, with_changes: bool, mut meet: impl FnMut(&Seen)) {
     let mut mem = vec![0; need(12)];
     let mut calls = 0;
-    for seed in seed.. {
-        let list = list(seed, LIST_CALLS);
+    for list in lists(seed, LIST_CALLS) {
         if with_changes {
             mem = list.memory;
         }
