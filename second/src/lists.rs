@@ -99,40 +99,14 @@ const EDGES: [u32; 24] = [
 /// Values of message RAM around the ends of a gap.
 const GAPS: [u32; 14] = [0, 3, 4, 5, 36, 38, 39, 40, 41, 100, 1_048_574, 1_048_575, 1_048_576, 0xFFFF_FFFF];
 
-/// A block's ranges as the lists aim at them, words 0 to 21.
-const AIMS: [(u32, u32); 22] = [
-    (0, 1),
-    (0, 1),
-    (0, 1),
-    (0, 1),
-    (0, 1),
-    (0, 1),
-    (0, 1),
-    (0, 2),
-    (1, 255),
-    (0, 255),
-    (0, 255),
-    (4, 1_048_575),
-    (0, 255),
-    (0, 254),
-    (0, 255),
-    (0, 254),
-    (0, 2),
-    (0, 255),
-    (0, 1),
-    (0, 127),
-    (0, 127),
-    (0, 127),
-];
-
 /// Ranges of the module part, word by word; the stamp may hold anything.
-const PART_AIMS: [(u32, u32); 16] = {
-    let mut aims = [(0, 65_536); 16];
-    aims[COUNT] = (1, 12);
-    aims[STAMP] = (0, u32::MAX);
-    aims[RESOLUTION] = (0, 3);
-    aims[THRESHOLD] = (1, 65_535);
-    aims
+const PART_RANGES: [(u32, u32); 16] = {
+    let mut ranges = [(0, 65_536); 16];
+    ranges[COUNT] = (1, 12);
+    ranges[STAMP] = (0, u32::MAX);
+    ranges[RESOLUTION] = (0, 3);
+    ranges[THRESHOLD] = (1, 65_535);
+    ranges
 };
 
 /// How many of 100 draws are runs, for each theme.
@@ -562,7 +536,7 @@ impl Writer {
         let setting = self.dice.below(12);
         let value = match self.dice.below(20) {
             0 | 1 => self.dice.one_of(&EDGES),
-            2..=10 => self.end_of(AIMS[setting as usize]),
+            2..=10 => self.end_of(RANGES[setting as usize]),
             _ => self.sound_value(setting),
         };
         self.loose(32 + setting, channel, value);
@@ -1008,7 +982,7 @@ impl Writer {
             // Within its range: states that a list alone reaches late.
             0..=2 => {
                 let word = self.dice.below(22);
-                let (least, greatest) = AIMS[word as usize];
+                let (least, greatest) = RANGES[word as usize];
                 let near = self.dice.below(3);
                 let value = match self.dice.below(3) {
                     0 => least + near.min(greatest - least),
@@ -1076,11 +1050,11 @@ impl Writer {
         let in_block = self.dice.chance(70);
         let (place, range) = if in_block {
             let word = self.dice.below(22) as usize;
-            (block(channel) + word, AIMS[word])
+            (block(channel) + word, RANGES[word])
         } else {
             // Twelve of the sixteen words are counters.
             let word = if self.dice.chance(70) { self.dice.below(4) } else { self.dice.below(16) } as usize;
-            (word, PART_AIMS[word])
+            (word, PART_RANGES[word])
         };
         let value = match self.dice.below(10) {
             0 => self.dice.word(),
