@@ -18,12 +18,6 @@ add-block c =
     let h = mark-fits (c .before .before .before .error-mark .result) _ _ (c .before .before .before .error-mark .ensures) in
     omega arith
 
-slice-write-block-2 : tie.Need-slice-write-block-2
-slice-write-block-2 c = simp length-set (omega arith)
-
-slice-write-block-3 : tie.Need-slice-write-block-3
-slice-write-block-3 c = simp length-set (omega arith)
-
 returns-2 : tie.Need-returns-2
 returns-2 c = search mail-stores
 
@@ -31,5 +25,5 @@ pub mail-spec : {M : Type 1} → statement M
 mail-spec =
     tie.close
     (tie.spec (search needs) returns (search needs) (search needs) (search needs) (search needs) (search needs) (search needs) (search needs)
-    (search needs) add-block (search needs) (λ c. search needs) (search needs) (search needs) slice-write-block-2 (search needs) (search needs)
-    slice-write-block-3 (λ c. search needs) returns-2)
+    (search needs) add-block (search needs) (λ c. search needs) (search needs) (search needs) (λ c. simp length-set (omega arith)) (search needs)
+    (search needs) (λ c. simp length-set (omega arith)) (λ c. search needs) returns-2)

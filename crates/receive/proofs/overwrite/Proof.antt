@@ -13,12 +13,6 @@ append3-requires c κs = let h = bounds (c .before .before .before .before .befo
 next-requires : tie.Need-next-requires
 next-requires c κs = let h = bounds (c .before .before .before .before .before .before .before .before .before .pre) in omega arith
 
-slice-write-block-2 : tie.Need-slice-write-block-2
-slice-write-block-2 c = simp length-set (omega arith)
-
-slice-write-block-3 : tie.Need-slice-write-block-3
-slice-write-block-3 c = simp length-set (omega arith)
-
 returns : tie.Need-returns
 returns c = cc
 
@@ -26,4 +20,4 @@ pub overwrite-spec : {M : Type 1} → statement M
 overwrite-spec =
     tie.close
     (tie.spec (search needs) (search needs) (search needs) (search needs) append3-requires next-requires (λ c. search needs) (search needs)
-    slice-write-block-2 (search needs) slice-write-block-3 (λ c. search needs) returns)
+    (λ c. simp length-set (omega arith)) (search needs) (λ c. simp length-set (omega arith)) (λ c. search needs) returns)

@@ -7,12 +7,6 @@ use borrow.Author.Needs.{needs}
 use Rattle.ring.proofs.append3.Statement.{statement}
 use Rattle.ring.proofs.append3.Tie as tie
 
-slice-write-block-2 : tie.Need-slice-write-block-2
-slice-write-block-2 c = simp length-set (omega arith)
-
-slice-write-block-3 : tie.Need-slice-write-block-3
-slice-write-block-3 c = simp length-set (omega arith)
-
 returns : tie.Need-returns
 returns c = simp towards-suc
 
@@ -20,4 +14,4 @@ pub append3-spec : {M : Type 1} → statement M
 append3-spec =
     tie.close
     (tie.spec (search needs) (search needs) (search needs) (search needs) (search needs) (search needs) (search needs) (search needs)
-    slice-write-block-2 (search needs) (search needs) slice-write-block-3 (search needs) returns)
+    (λ c. simp length-set (omega arith)) (search needs) (search needs) (λ c. simp length-set (omega arith)) (search needs) returns)

@@ -7,15 +7,6 @@ use borrow.Author.Needs.{needs}
 use Rattle.status.proofs.tests.reset.Statement.{statement}
 use Rattle.status.proofs.tests.reset.Tie as tie
 
-slice-write-block-2 : tie.Need-slice-write-block-2
-slice-write-block-2 c = simp length-set (omega arith)
-
-slice-write-block-3 : tie.Need-slice-write-block-3
-slice-write-block-3 c = simp length-set (omega arith)
-
-same-length : tie.Need-same-length
-same-length c = simp length-set (omega arith)
-
 returns : tie.Need-returns
 unfolding blockReset
 returns c = cc
@@ -23,4 +14,5 @@ returns c = cc
 pub reset-spec : {M : Type 1} → statement M
 reset-spec =
     tie.close
-    (tie.spec (search needs) (search needs) (search needs) (search needs) slice-write-block-2 slice-write-block-3 same-length returns)
+    (tie.spec (search needs) (search needs) (search needs) (search needs) (λ c. simp length-set (omega arith)) (λ c. simp length-set (omega arith))
+    (λ c. simp length-set (omega arith)) returns)
