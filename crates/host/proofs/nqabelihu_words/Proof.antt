@@ -6,17 +6,10 @@ use borrow.Author.Needs.{needs}
 use Rattle.host.proofs.nqabelihu_words.Statement.{statement}
 use Rattle.host.proofs.nqabelihu_words.Tie as tie
 
-returns : tie.Need-returns
-unfolding hostWords
-returns c = search branches
-
-returns-2 : tie.Need-returns-2
-unfolding hostWords
-returns-2 c = search branches
-
 returns-3 : tie.Need-returns-3
 unfolding hostWords
 returns-3 c = search (branches, c .need .ensures)
 
 pub nqabelihu-words-spec : {M : Type 1} → statement M
-nqabelihu-words-spec = tie.close (tie.spec returns returns-2 (λ c κs. search needs) returns-3)
+unfolding hostWords
+nqabelihu-words-spec = tie.close (tie.spec (λ c. search branches) (λ c. search branches) (λ c κs. search needs) returns-3)

@@ -10,14 +10,6 @@ use borrow.Author.Needs.{needs}
 use Rattle.power.proofs.power_up.Statement.{statement}
 use Rattle.power.proofs.power_up.Tie as tie
 
-returns : tie.Need-returns
-unfolding powerRefusal
-returns c = search branches
-
-returns-2 : tie.Need-returns-2
-unfolding powerRefusal
-returns-2 c = search branches
-
 returns-3 : tie.Need-returns-3
 unfolding powerRefusal
 returns-3 c =
@@ -34,6 +26,8 @@ returns-4 c =
     search (branches, filled-whole (a .count) (a .mem .now) _ _ h (blocks .fill-channels .ensures) (c .before .before .fill-part .ensures))
 
 pub power-up-spec : {M : Type 1} → statement M
+unfolding powerRefusal
 power-up-spec =
     tie.close
-    (tie.spec returns returns-2 (λ c κs. search needs) returns-3 (λ c κs. search needs) (λ c κs. search needs) (λ c. search needs) returns-4)
+    (tie.spec (λ c. search branches) (λ c. search branches) (λ c κs. search needs) returns-3 (λ c κs. search needs) (λ c κs. search needs)
+    (λ c. search needs) returns-4)

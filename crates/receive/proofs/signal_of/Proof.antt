@@ -16,14 +16,6 @@ returns : tie.Need-returns
 unfolding signalled
 returns c = rw (c .before .before .enum-told4 .given .1, eq-eqb _ 0 (c .if1 .taken))
 
-returns-2 : tie.Need-returns-2
-unfolding signalled
-returns-2 c = search branches
-
-returns-3 : tie.Need-returns-3
-unfolding signalled
-returns-3 c = search branches
-
 returns-4 : tie.Need-returns-4
 unfolding signalled
 returns-4 c = rw (c .enum-told3 .given .1) (cc)
@@ -37,7 +29,8 @@ unfolding signalled
 returns-6 c = rw (c .enum-told5 .given .1) (cc)
 
 pub signal-of-spec : {M : Type 1} → statement M
+unfolding signalled
 signal-of-spec =
     tie.close
     (tie.spec (search needs) (search needs) mul-signal (search needs) (search needs) (search needs) (search needs) (search needs) returns
-    (search needs) returns-2 returns-3 returns-4 returns-5 returns-6)
+    (search needs) (λ c. search branches) (λ c. search branches) returns-4 returns-5 returns-6)

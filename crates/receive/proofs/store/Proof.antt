@@ -12,27 +12,16 @@ append-requires c κs = (search mail-usable, search mail-room)
 overwrite-requires : tie.Need-overwrite-requires
 overwrite-requires c κs = search mail-usable
 
-returns : tie.Need-returns
-unfolding stored
-returns c = cc
-
-returns-2 : tie.Need-returns-2
-unfolding stored
-returns-2 c = cc
-
 returns-3 : tie.Need-returns-3
 returns-3 c = search store-appended
-
-returns-4 : tie.Need-returns-4
-unfolding stored
-returns-4 c = cc
 
 returns-5 : tie.Need-returns-5
 returns-5 c = search store-overwriting
 
 pub store-spec : {M : Type 1} → statement M
+unfolding stored
 store-spec =
     tie.close
-    (tie.spec (λ c κs. search needs) (search needs) (search needs) (search needs) (λ c κs. search needs) append-requires (search needs) (λ c κs. search needs) (search needs)
-    (λ c κs. search needs) overwrite-requires (λ c. search needs) returns (λ c. search needs) returns-2 (λ c. search needs) returns-3
-    (λ c. search needs) returns-4 (λ c. search needs) returns-5)
+    (tie.spec (λ c κs. search needs) (search needs) (search needs) (search needs) (λ c κs. search needs) append-requires (search needs)
+    (λ c κs. search needs) (search needs) (λ c κs. search needs) overwrite-requires (λ c. search needs) (λ c. cc) (λ c. search needs) (λ c. cc)
+    (λ c. search needs) returns-3 (λ c. search needs) (λ c. cc) (λ c. search needs) returns-5)

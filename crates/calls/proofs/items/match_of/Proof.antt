@@ -5,13 +5,6 @@ use Rattle.calls.specs.Items.{matchOf}
 use Rattle.calls.proofs.items.match_of.Statement.{statement}
 use Rattle.calls.proofs.items.match_of.Tie as tie
 
-returns : tie.Need-returns
-unfolding matchOf
-returns c = search branches
-
-returns-2 : tie.Need-returns-2
-unfolding matchOf
-returns-2 c = search branches
-
 pub match-of-spec : {M : Type 1} → statement M
-match-of-spec = tie.close (tie.spec returns returns-2)
+unfolding matchOf
+match-of-spec = tie.close (tie.spec (λ c. search branches) (λ c. search branches))

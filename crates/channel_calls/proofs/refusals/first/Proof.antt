@@ -5,13 +5,6 @@ use Rattle.channel_calls.specs.Refusals.{first}
 use Rattle.channel_calls.proofs.refusals.first.Statement.{statement}
 use Rattle.channel_calls.proofs.refusals.first.Tie as tie
 
-returns : tie.Need-returns
-unfolding first
-returns c = search branches
-
-returns-2 : tie.Need-returns-2
-unfolding first
-returns-2 c = search branches
-
 pub first-spec : {M : Type 1} → statement M
-first-spec = tie.close (tie.spec returns returns-2)
+unfolding first
+first-spec = tie.close (tie.spec (λ c. search branches) (λ c. search branches))

@@ -4,11 +4,8 @@ use borrow.Author.Needs.{needs}
 use Rattle.channel_calls.proofs.refusals.test_refusal.Statement.{statement}
 use Rattle.channel_calls.proofs.refusals.test_refusal.Tie as tie
 
-returns : tie.Need-returns
-returns c = cc
-
-returns-3 : tie.Need-returns-3
-returns-3 c = cc
-
 pub test-refusal-spec : {M : Type 1} → statement M
-test-refusal-spec = tie.close (tie.spec (λ c. search needs) (λ c. search needs) (λ c. search needs) (λ c. search needs) (λ c. search needs) returns (λ c. search needs) returns-3)
+test-refusal-spec =
+    tie.close
+    (tie.spec (λ c. search needs) (λ c. search needs) (λ c. search needs) (λ c. search needs) (λ c. search needs) (λ c. cc) (λ c. search needs)
+    (λ c. cc))

@@ -4,11 +4,5 @@ use Rattle.word.proofs.Branches.{branches}
 use Rattle.module.proofs.perform.done_unless.Statement.{statement}
 use Rattle.module.proofs.perform.done_unless.Tie as tie
 
-returns : tie.Need-returns
-returns c = search branches
-
-returns-2 : tie.Need-returns-2
-returns-2 c = search branches
-
 pub done-unless-spec : {M : Type 1} → statement M
-done-unless-spec = tie.close (tie.spec returns returns-2)
+done-unless-spec = tie.close (tie.spec (λ c. search branches) (λ c. search branches))

@@ -6,13 +6,6 @@ use borrow.Author.Needs.{needs}
 use Rattle.transmit.proofs.step.immediate.Statement.{statement}
 use Rattle.transmit.proofs.step.immediate.Tie as tie
 
-returns : tie.Need-returns
-unfolding immediateOutput immediateAfter
-returns c = search branches
-
-returns-2 : tie.Need-returns-2
-unfolding immediateOutput immediateAfter
-returns-2 c = search branches
-
 pub immediate-spec : {M : Type 1} → statement M
-immediate-spec = tie.close (tie.spec (search needs) returns (λ c. search needs) (λ c. search needs) returns-2)
+unfolding immediateOutput immediateAfter
+immediate-spec = tie.close (tie.spec (search needs) (λ c. search branches) (λ c. search needs) (λ c. search needs) (λ c. search branches))
