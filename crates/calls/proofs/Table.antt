@@ -107,19 +107,19 @@ none-low ch a b = refl
 pub none-to-31 : (op ch a b : ℕ) → 10 ≤ op → op < 32 → decoded op ch a b ≡ NoCall
 unfolding decoded settingItem
 none-to-31 op ch a b l h =
-    rw (le-ltb op 1 (omega arith), ne-eqb op 1 (λ e. omega (arith, l, e)), ne-eqb op 2 (λ e. omega (arith, l, e)), le-ltb op 10 (omega arith), lt-ltb op 128 (omega arith), lt-ltb op 32 (omega arith)) refl
+    simp (le-ltb op 1 (omega arith), ne-eqb op 1 (λ e. omega (arith, l, e)), ne-eqb op 2 (λ e. omega (arith, l, e)), le-ltb op 10 (omega arith), lt-ltb op 128 (omega arith), lt-ltb op 32 (omega arith))
 
 pub none-to-63 : (op ch a b : ℕ) → 44 ≤ op → op < 64 → decoded op ch a b ≡ NoCall
 unfolding decoded settingItem
 none-to-63 op ch a b l h =
-    rw (le-ltb op 1 (omega arith), ne-eqb op 1 (λ e. omega (arith, l, e)), ne-eqb op 2 (λ e. omega (arith, l, e)), le-ltb op 10 (omega arith), lt-ltb op 128 (omega arith), le-ltb op 32 (omega arith), le-ltb op 44 (omega arith), lt-ltb op 64 (omega arith)) refl
+    simp (le-ltb op 1 (omega arith), ne-eqb op 1 (λ e. omega (arith, l, e)), ne-eqb op 2 (λ e. omega (arith, l, e)), le-ltb op 10 (omega arith), lt-ltb op 128 (omega arith), le-ltb op 32 (omega arith), le-ltb op 44 (omega arith), lt-ltb op 64 (omega arith))
 
 pub none-to-127 : (op ch a b : ℕ) → 76 ≤ op → op < 128 → decoded op ch a b ≡ NoCall
 unfolding decoded settingItem
 none-to-127 op ch a b l h =
-    rw (le-ltb op 1 (omega arith), ne-eqb op 1 (λ e. omega (arith, l, e)), ne-eqb op 2 (λ e. omega (arith, l, e)), le-ltb op 10 (omega arith), lt-ltb op 128 (omega arith), le-ltb op 32 (omega arith), le-ltb op 44 (omega arith), le-ltb op 64 (omega arith), le-ltb op 76 (omega arith)) refl
+    simp (le-ltb op 1 (omega arith), ne-eqb op 1 (λ e. omega (arith, l, e)), ne-eqb op 2 (λ e. omega (arith, l, e)), le-ltb op 10 (omega arith), lt-ltb op 128 (omega arith), le-ltb op 32 (omega arith), le-ltb op 44 (omega arith), le-ltb op 64 (omega arith), le-ltb op 76 (omega arith))
 
 pub none-above : (op ch a b : ℕ) → 157 ≤ op → decoded op ch a b ≡ NoCall
 unfolding decoded
 none-above op ch a b l =
-    rw (le-ltb op 1 (omega arith), ne-eqb op 1 (λ e. omega (arith, l, e)), ne-eqb op 2 (λ e. omega (arith, l, e)), le-ltb op 10 (omega arith), le-ltb op 128 (omega arith), le-ltb op 157 (omega arith)) refl
+    simp (le-ltb op 1 (omega arith), ne-eqb op 1 (λ e. omega (arith, l, e)), ne-eqb op 2 (λ e. omega (arith, l, e)), le-ltb op 10 (omega arith), le-ltb op 128 (omega arith), le-ltb op 157 (omega arith))

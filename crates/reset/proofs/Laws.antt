@@ -4,7 +4,7 @@ use Prim.Native.Nat.{ℕ, _≤_, _<_}
 use mathlib.Core.Path.{_≡_, refl, _∙_}
 use mathlib.Core.List.{List}
 use native.Mathlib.Omega.{arith}
-use lib.ListN.{length, drop, length-append, length-drop, length-set, List·getD-append}
+use lib.ListN.{length, drop, length-drop, length-set, List·getD-append}
 use Rattle.block.specs.Layout.{word}
 use Rattle.status.specs.Tests.{blockReset}
 use Rattle.frame.specs.Layout.{count, moduleWords, Framed, block}
@@ -29,7 +29,7 @@ module _ (m : List ℕ) where
     unfolding moduleReset
     reset-length =
         let e = each-length reset-own m f (word m count) (omega arith) in
-        simp (length-append, length-drop) (omega (arith, e, f .room))
+        simp length-drop (omega (arith, e, f .room))
 
     pub reset-framed : Framed (length (moduleReset m)) (word (moduleReset m) count)
     reset-framed = rw (reset-length, reset-word count (omega arith)) f

@@ -1,9 +1,11 @@
 -- `transmit::step::send` meets its contract: each branch is a case of the definition, with what the callees ensure.
 -- Assumes nothing.
+use mathlib.Core.Path.{_≡_, ap}
+use lib.ListN.{getD}
 use Rattle.word.proofs.Branches.{branches}
 use native.Mathlib.Omega.{arith}
 use borrow.Author.Tests.{ne-eqb}
-use Rattle.transmit.specs.Step.{sendOutput, sendAfter}
+use Rattle.transmit.specs.Step.{oldestWord, sendOutput, sendAfter}
 use Rattle.transmit.proofs.Bounds.{position-fits}
 use borrow.Author.Needs.{needs}
 use Rattle.transmit.proofs.step.send.Statement.{statement}
@@ -23,7 +25,9 @@ returns-2 : tie.Need-returns-2
 unfolding sendOutput sendAfter
 returns-2 c =
     let some = ne-eqb _ 0 (c .before .before .before .before .before .before .before .before .before .if1 .left) in
-    rw (some, ← c .before .oldest1 .ensures) (cc, cc)
+    let b = c .before .before .before .before .before .before .before .before .before .before .before .before .args .block .now in
+    let oldest : c .before .oldest1 .result ≡ oldestWord b = ap (λ l. getD l 0 0) (c .before .oldest1 .ensures) in
+    rw some (cc oldest, cc)
 
 pub send-spec : {M : Type 1} → statement M
 send-spec =

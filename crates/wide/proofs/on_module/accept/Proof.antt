@@ -1,12 +1,19 @@
 -- `wide::on_module::accept` meets its contract: each call from what its callee ensures.
 -- Assumes nothing.
-use mathlib.Core.Path.{refl}
+use mathlib.Core.Path.{refl, ap, _∙_}
+use lib.ListN.{set}
+use Rattle.frame.specs.Layout.{stamp}
+use Rattle.wide.specs.Rule.{ruledAll}
 use borrow.Author.Needs.{needs}
 use Rattle.wide.proofs.on_module.accept.Statement.{statement}
 use Rattle.wide.proofs.on_module.accept.Tie as tie
 
 returns : tie.Need-returns
-returns c = rw (c .before .before .before .before .before .before .call .given .1, ← c .before .before .before .wrapping-add-u32 .ensures) (c .before .before .write .ensures)
+returns c =
+    let m = c .before .before .before .before .before .before .before .before .before .before .args .mem .now in
+    let advanced = ap (λ x. ruledAll m (set m stamp x)) (c .before .before .before .wrapping-add-u32 .ensures) in
+    let done = c .before .before .write .ensures in
+    rw (c .before .before .before .before .before .before .call .given .1) (done .0, done .1 ∙ advanced)
 
 returns-2 : tie.Need-returns-2
 returns-2 c = rw (c .before .before .before .before .enum-told .given .1) (c .before .before .write2 .ensures)
