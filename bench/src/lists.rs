@@ -98,7 +98,7 @@ pub fn kinds(channels: u32) -> Vec<Kind> {
         kind("refused, wrong channel", &[], vec![], (0..CALLS).map(|_| item(146, n + 1, 0, 0)).collect()),
         kind("refused, argument out of range", &[], vec![], round(n, 147, |_| 128)),
         kind("no call", &[], vec![], round(n, 200, |_| 0)),
-        kind("power-up", &[], vec![], (0..4).map(|_| item(1, 0, n, 0)).collect()),
+        kind("power-up", &[], vec![], (0..CALLS).map(|_| item(1, 0, n, 0)).collect()),
     ];
     let mut short = kind("refused, one word short", &[], vec![], round(n, 128, word));
     short.short_by = 1;

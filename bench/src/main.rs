@@ -1,9 +1,10 @@
 //! The cost of a call: the proved library, through its C entry, against the independent program on lent words, on the same lists.
 //!
-//! Both work on memory of their own. Before a kind is timed, its lists run once through both, and every answer and the whole memory are
-//! compared. Rounds are interleaved, and spread over passes that go over all kinds; each figure is the median of the rounds, and a ratio is
-//! the median of the ratios of rounds that ran one after the other. The independent program gives its answer in a vector: its rounds run
-//! once with an allocator that costs next to nothing, and once with the system's.
+//! Before a kind is timed, its lists run once through both, and every answer and the whole memory are compared. The independent program
+//! gives its answer in a vector: its rounds run with an allocator that costs next to nothing, once more in the same way, which tells what
+//! the measurement itself differs by, and once with the system's allocator. Rounds of the four are interleaved, each comes first in turn
+//! and has each of four equal memories in turn, and they are spread over passes that go over all kinds; a figure is the median of the
+//! rounds, and a ratio is the median of the ratios of rounds that ran one after the other.
 
 mod alloc;
 mod lists;
@@ -55,14 +56,20 @@ fn median(mut times: Vec<f64>) -> f64 {
     times[times.len() / 2]
 }
 
-/// A kind under way: its memories, and nanoseconds per call in each round, for the proved library, the independent program, and the same
-/// with the system's allocator.
+/// The four that are timed.
+const PROVED: usize = 0;
+const RUST: usize = 1;
+const RUST_AGAIN: usize = 2;
+const RUST_WITH_MALLOC: usize = 3;
+const TIMED: usize = 4;
+
+/// A kind under way: its memories, and nanoseconds per call in each round.
 struct Run {
     kind: Kind,
     channels: u32,
     lent: usize,
-    mems: [Vec<u32>; 3],
-    times: [Vec<f64>; 3],
+    mems: [Vec<u32>; TIMED],
+    times: [Vec<f64>; TIMED],
 }
 
 impl Run {
@@ -78,21 +85,21 @@ impl Run {
             compare(&mut first, &mut second, need(channels), &kind.before, kind.name);
             compare(&mut first, &mut second, lent, &kind.timed, kind.name);
         }
-        let third = second.clone();
-        Run { kind, channels, lent, mems: [first, second, third], times: [vec![], vec![], vec![]] }
+        let (third, fourth) = (second.clone(), second.clone());
+        Run { kind, channels, lent, mems: [first, second, third, fourth], times: Default::default() }
     }
 
     fn rounds(&mut self, rounds: usize) {
         for round in 0..rounds {
-            // Each of the three comes first in turn.
-            for place in 0..3 {
-                let which = (round + place) % 3;
-                let mem = &mut self.mems[which];
+            // Each of the four comes first in turn, and has each memory in turn.
+            for place in 0..TIMED {
+                let which = (round + place) % TIMED;
+                let mem = &mut self.mems[(which + round / TIMED) % TIMED];
                 black_box(run_proved(mem, &self.kind.before));
-                alloc::cheap(which == 1);
+                alloc::cheap(which == RUST || which == RUST_AGAIN);
                 let start = Instant::now();
                 let sum = match which {
-                    0 => run_proved(&mut mem[..self.lent], black_box(&self.kind.timed)),
+                    PROVED => run_proved(&mut mem[..self.lent], black_box(&self.kind.timed)),
                     _ => run_second(&mut mem[..self.lent], black_box(&self.kind.timed)),
                 };
                 let elapsed = start.elapsed();
@@ -104,8 +111,8 @@ impl Run {
     }
 
     /// The median of the ratios of rounds that ran one after the other.
-    fn ratio(&self, other: usize) -> f64 {
-        median(self.times[0].iter().zip(&self.times[other]).map(|(proved, rust)| proved / rust).collect())
+    fn ratio(&self, over: usize, under: usize) -> f64 {
+        median(self.times[over].iter().zip(&self.times[under]).map(|(over, under)| over / under).collect())
     }
 }
 
@@ -116,30 +123,30 @@ fn main() {
         [1, 12].into_iter().flat_map(|channels| kinds(channels).into_iter().map(move |kind| Run::new(kind, channels))).collect();
     for _ in 0..passes {
         for run in &mut runs {
-            run.rounds(if run.kind.name == "power-up" { 10 } else { 100 });
+            // A multiple of 16, so that each has been everywhere equally often.
+            run.rounds(if run.kind.name == "power-up" { 48 } else { 96 });
         }
     }
-    println!("| Call | Channels | Proved, ns | Rust, ns | Proved / Rust | Rust with malloc, ns | Proved / that |");
-    println!("|---|---|---|---|---|---|---|");
+    println!("| Call | Channels | Proved, ns | Rust, ns | Proved / Rust | Rust / itself | Rust with malloc, ns | Proved / that |");
+    println!("|---|---|---|---|---|---|---|---|");
     for run in &runs {
-        let [proved, rust, system] = run.times.clone().map(median);
+        let time = |which: usize| median(run.times[which].clone());
         println!(
-            "| {} | {} | {proved:.1} | {rust:.1} | {:.2} | {system:.1} | {:.2} |",
+            "| {} | {} | {:.1} | {:.1} | {:.3} | {:.3} | {:.1} | {:.3} |",
             run.kind.name,
             run.channels,
-            run.ratio(1),
-            run.ratio(2)
+            time(PROVED),
+            time(RUST),
+            run.ratio(PROVED, RUST),
+            run.ratio(RUST_AGAIN, RUST),
+            time(RUST_WITH_MALLOC),
+            run.ratio(PROVED, RUST_WITH_MALLOC)
         );
     }
-    // A ratio up to 1.03 is noise.
-    let slower = runs.iter().filter(|run| run.ratio(1) > 1.03).count();
-    let worst = runs.iter().max_by(|a, b| a.ratio(1).total_cmp(&b.ratio(1))).expect("there are rows");
+    let greatest = |over: usize| {
+        let row = runs.iter().max_by(|a, b| a.ratio(over, RUST).total_cmp(&b.ratio(over, RUST))).expect("there are rows");
+        format!("{:.3}, {} on {}", row.ratio(over, RUST), row.kind.name, row.channels)
+    };
     println!();
-    println!(
-        "Slower than the Rust program by more than 3 percent in {slower} of {} rows; the greatest ratio is {:.2}, {} on {}.",
-        runs.len(),
-        worst.ratio(1),
-        worst.kind.name,
-        worst.channels
-    );
+    println!("The greatest ratio to the Rust program: {}. Of that program to itself: {}.", greatest(PROVED), greatest(RUST_AGAIN));
 }

@@ -1,9 +1,9 @@
 -- Factory values (paper 01, "Channel settings").
 use Prim.Native.Nat.{ℕ, _-_}
 use mathlib.Core.List.{List, [], _∷_, _++_}
-use lib.ListN.{replicate}
+use lib.ListN.{replicate, set}
 use lib.Seq.{sets}
-use Rattle.block.specs.Layout.{settings, receiver}
+use Rattle.block.specs.Layout.{settings, receiver, parity, receiveSize}
 
 -- "Factory: receiver, transmitter, match and stamps off, parity on, FIFO mode, bounded, immediate"; size 255, thresholds 128 and 32, rate 4
 abbrev pub factorySettings : List ℕ
@@ -16,3 +16,7 @@ factoryOf n = factorySettings ++ replicate (n - settings) 0
 -- "settings to factory"
 abbrev pub settingsToFactory : List ℕ → List ℕ
 settingsToFactory b = sets b receiver factorySettings
+
+-- the same for those alone whose factory value is not 0: what zeros lack to be a factory block
+abbrev pub nonzeroToFactory : List ℕ → List ℕ
+nonzeroToFactory b = sets (set b parity 1) receiveSize (255 ∷ 128 ∷ 32 ∷ 4 ∷ [])

@@ -13,7 +13,19 @@ use crate::layout::TRANSMIT_MODE;
 use crate::layout::TRANSMITTER;
 ghost use mathlib.Core.Path.{_≡_};
 ghost use Rattle.block.specs.Layout.{Whole};
-ghost use Rattle.block.specs.Factory.{settingsToFactory};
+ghost use Rattle.block.specs.Factory.{nonzeroToFactory, settingsToFactory};
+
+// Puts the settings whose factory value is not 0 to it; a block of zeros needs no more.
+pub fn reset_nonzero_settings(block: &mut [u32])
+    requires { ⌜ Whole (now block) ⌝ }
+    ensures { λ r. ⌜ now (block .exit) ≡ nonzeroToFactory (now (block .entry)) ⌝ }
+{
+    block[PARITY] = 1;
+    block[RECEIVE_SIZE] = 255;
+    block[ALMOST_FULL] = 128;
+    block[ALMOST_EMPTY] = 32;
+    block[RATE] = word::Gap::LEAST;
+}
 
 // Puts the settings back to their factory values.
 pub fn reset_settings(block: &mut [u32])
@@ -22,14 +34,10 @@ pub fn reset_settings(block: &mut [u32])
 {
     block[RECEIVER] = 0;
     block[TRANSMITTER] = 0;
-    block[PARITY] = 1;
     block[MATCH] = 0;
     block[STAMPS] = 0;
     block[RECEIVE_MODE] = 0;
     block[FIFO_KIND] = 0;
     block[TRANSMIT_MODE] = 0;
-    block[RECEIVE_SIZE] = 255;
-    block[ALMOST_FULL] = 128;
-    block[ALMOST_EMPTY] = 32;
-    block[RATE] = word::Gap::LEAST;
+    reset_nonzero_settings(block);
 }

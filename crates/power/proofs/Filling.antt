@@ -6,10 +6,10 @@ use mathlib.Core.List.{List, _++_, append-assoc}
 use native.Mathlib.Numerals.{add-one}
 use native.Mathlib.Omega.{arith}
 use lib.ListN.{length, take, drop, replicate, length-append, length-replicate, replicate-append-replicate}
-use lib.Seq.{take-at, drop-at, length-take-le, sets-eq}
+use lib.Seq.{take-at, drop-at, length-take-le}
 use borrow.Rule.Slice.PartMut.{putMid, postOf, post-is, mid-len, take-put, drop-put}
 use Rattle.block.specs.Layout.{settings, blockWords}
-use Rattle.block.specs.Factory.{factorySettings, factoryOf, settingsToFactory}
+use Rattle.block.specs.Factory.{factoryOf, nonzeroToFactory}
 use Rattle.frame.specs.Layout.{moduleWords, need, base, block, withBlock}
 use Rattle.frame.proofs.Parts.{part, splice, part-back, splice-back}
 use Rattle.power.specs.Power.{repeated, factoryPart, factoryBlocks, powered}
@@ -30,18 +30,11 @@ factory-length = factory-of blockWords (omega arith)
 
 -- ---- zeros
 
--- zeros without their first n
-drop-zeros : (n m : ℕ) → n ≤ m → drop n (replicate {A = ℕ} m 0) ≡ replicate (m - n) 0
-drop-zeros n m h =
-    let e : m ≡ n + (m - n) = omega arith in
-    ap (λ (k : ℕ). drop n (replicate k 0)) e ∙ ap (drop n) (sym (replicate-append-replicate n (m - n) 0))
-    ∙ drop-at (replicate n 0) (replicate (m - n) 0) n (length-replicate n 0)
-
--- zeros with the factory settings stored first are the factory block
-filled-of : (n : ℕ) → settings ≤ n → settingsToFactory (replicate n 0) ≡ factoryOf n
+-- zeros with the settings that are not 0 at the factory are the factory block
+filled-of : (n : ℕ) → settings ≤ n → nonzeroToFactory (replicate n 0) ≡ factoryOf n
 filled-of n h =
-    sets-eq factorySettings (replicate n 0) 0 (rw length-replicate (omega arith))
-    ∙ ap (λ (l : List ℕ). factorySettings ++ l) (drop-zeros settings n h)
+    let e : n ≡ settings + (n - settings) = omega arith in
+    ap (λ (k : ℕ). nonzeroToFactory (replicate k 0)) e ∙ ap nonzeroToFactory (sym (replicate-append-replicate settings (n - settings) 0))
 
 -- ---- n parts f behind p, then z zeros, then r
 
@@ -111,7 +104,7 @@ zeroed k e m b h q z =
 
 -- the next block filled, and all of them
 pub filled-next : (n k : ℕ) (m x y : List ℕ) → n < k → need k ≤ length x → length x ≡ length m → x ≡ filledTo n k m
-    → y ≡ withBlock x (n + 1) (settingsToFactory (block x (n + 1))) → y ≡ filledTo (n + 1) k m
+    → y ≡ withBlock x (n + 1) (nonzeroToFactory (block x (n + 1))) → y ≡ filledTo (n + 1) k m
 unfolding block withBlock
 filled-next n k m x y l h same e g =
     let p : length (take moduleWords m) ≡ moduleWords = length-take-le moduleWords m (omega arith) in
@@ -120,8 +113,8 @@ filled-next n k m x y l h same e g =
     let room : blockWords ≤ (k - n) * blockWords = omega arith in
     let less : (k - n) * blockWords - blockWords ≡ (k - (n + 1)) * blockWords = omega arith in
     let zeros = next-zeros (base (n + 1)) n blockWords ((k - n) * blockWords) f (take moduleWords m) (drop (need k) m) factory-length at room in
-    g ∙ ap (λ (t : List ℕ). splice (base (n + 1)) blockWords (settingsToFactory (part (base (n + 1)) blockWords t)) t) e
-    ∙ ap (λ (t : List ℕ). splice (base (n + 1)) blockWords t (filledTo n k m)) (ap settingsToFactory zeros ∙ filled-of blockWords (omega arith))
+    g ∙ ap (λ (t : List ℕ). splice (base (n + 1)) blockWords (nonzeroToFactory (part (base (n + 1)) blockWords t)) t) e
+    ∙ ap (λ (t : List ℕ). splice (base (n + 1)) blockWords t (filledTo n k m)) (ap nonzeroToFactory zeros ∙ filled-of blockWords (omega arith))
     ∙ next-laid (base (n + 1)) n blockWords ((k - n) * blockWords) f (take moduleWords m) (drop (need k) m) factory-length at room
     ∙ ap (λ (z : ℕ). laid (n + 1) z f (take moduleWords m) (drop (need k) m)) less
 

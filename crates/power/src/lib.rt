@@ -12,7 +12,7 @@ ghost use mathlib.Core.Path.{_≡_};
 ghost use mathlib.Core.List.{_++_};
 ghost use Prim.Native.Nat.{_≤_};
 ghost use lib.ListN.{length, take, drop, replicate};
-ghost use Rattle.block.specs.Factory.{settingsToFactory};
+ghost use Rattle.block.specs.Factory.{nonzeroToFactory};
 ghost use Rattle.frame.specs.Layout.{moduleWords, most, need, block, withBlock};
 ghost use Rattle.power.specs.Power.{factoryPart, factoryBlocks, powerRefusal, powerAfter};
 
@@ -53,14 +53,14 @@ fn zero(words: &mut [u32])
     }
 }
 
-// Puts a channel's settings to their factory values.
+// Puts a channel's settings to their factory values, where all of its block is zeros.
 fn set_channel(mem: &mut [u32], channel: u32)
     requires { ⌜ (1 ≤ channel) × (need channel ≤ length (now mem)) ⌝ }
-    ensures { λ r. ⌜ now (mem .exit) ≡ withBlock (now (mem .entry)) channel (settingsToFactory (block (now (mem .entry)) channel)) ⌝ }
+    ensures { λ r. ⌜ now (mem .exit) ≡ withBlock (now (mem .entry)) channel (nonzeroToFactory (block (now (mem .entry)) channel)) ⌝ }
 {
     let from = MODULE_WORDS + ((channel - 1) as usize) * WORDS;
     let to = from + WORDS;
-    block::factory::reset_settings(&mut mem[from..to]);
+    block::factory::reset_nonzero_settings(&mut mem[from..to]);
 }
 
 // Fills the blocks of the channels 1 to `count`: zeros in all of them at once, which is quicker than block by block, and then the settings.

@@ -1,4 +1,4 @@
--- `power::set_channel` meets its contract: the channel's block, from what `reset_settings` ensures of the part that is lent.
+-- `power::set_channel` meets its contract: the channel's block, from what `reset_nonzero_settings` ensures of the part that is lent.
 -- Assumes nothing.
 use mathlib.Core.Path.{refl}
 use Rattle.frame.proofs.Blocks.{part-is, put-is}
@@ -7,7 +7,7 @@ use Rattle.power.proofs.set_channel.Statement.{statement}
 use Rattle.power.proofs.set_channel.Tie as tie
 
 returns : tie.Need-returns
-returns c = rw (put-is, c .before .before .reset-settings .ensures, part-is) refl
+returns c = rw (put-is, c .before .before .reset-nonzero-settings .ensures, part-is) refl
 
 pub set-channel-spec : {M : Type 1} → statement M
 set-channel-spec =
