@@ -2,7 +2,7 @@
  * nqabelihu.h: the C interface of a software ARINC 429 channel module.
  *
  * The library behind it (libhost.a) is written in Rattle and proved: for any memory and any numbers each call is refused by the number in
- * the table below, or does exactly what docs/CALLS.md says. It holds no state, allocates nothing, starts no thread, and of the C library
+ * the table below, or does exactly what docs/CALLS.md says of it. It holds no state, allocates nothing, starts no thread, and of the C library
  * it calls memset alone. A module is the memory that you lend.
  *
  * Ten lines that receive a word:
@@ -27,8 +27,9 @@
  *     for uint32_t. With 0 words it may be null: nothing is read or written through it.
  *   - The memory and the words lent for the values do not overlap. (The functions below by name lend an array of their own for the values.)
  *   - Nobody else reads or writes the lent words during a call: lend a module to one thread at a time.
- *   - Lend a module's memory from its first word on. Between calls it is yours to copy, save and compare; a stored number that you put out
- *     of its range is refused with NQABELIHU_UNSOUND, and is never undefined behaviour.
+ *   - Lend a module's memory from its first word on. Between calls it is yours to copy, save and compare. Whatever you put there is never
+ *     undefined behaviour: a call that meets a stored number outside its range, in the module part or on its channel (module-wide: on any
+ *     channel), is refused with NQABELIHU_UNSOUND; power-up writes every word anew.
  */
 #ifndef NQABELIHU_H
 #define NQABELIHU_H
@@ -72,7 +73,7 @@ enum {
 /* nqabelihu_words for a count of 1 to 12 as a constant, for an array. */
 #define NQABELIHU_WORDS(count) ((size_t)NQABELIHU_MODULE_WORDS + (size_t)(count) * NQABELIHU_CHANNEL_WORDS)
 
-/* ---- the answer's number, tested in this order: the first that applies is given ---- */
+/* ---- the answer's number; 1 to 7 are tested in this order, behind 24 and then 42: the first that applies is given ---- */
 
 enum {
     NQABELIHU_DONE = 0,
@@ -83,7 +84,7 @@ enum {
     NQABELIHU_MODE = 5,        /* not allowed in the present setting */
     NQABELIHU_FULL = 6,        /* transmit FIFO holds 255, or an async word already waits */
     NQABELIHU_EMPTY = 7,       /* receive FIFO holds none */
-    NQABELIHU_FEW_VALUES = 24, /* fewer than seven words lent for the values; tested before all else */
+    NQABELIHU_FEW_VALUES = 24, /* fewer than seven words lent for the values */
     NQABELIHU_NO_CALL = 42     /* the op is no call */
 };
 
@@ -115,7 +116,7 @@ enum {
     NQABELIHU_IGNORED = 0,    /* the receiver is off */
     NQABELIHU_FILTERED = 1,   /* its index is not in the match set */
     NQABELIHU_APPENDED = 2,   /* entered the FIFO */
-    NQABELIHU_DROPPED = 3,    /* lost: a bounded FIFO was full */
+    NQABELIHU_DROPPED = 3,    /* a bounded FIFO was full: the word is lost; in mailbox mode its mailbox has it, its index is not listed */
     NQABELIHU_OVERWRITING = 4 /* entered a full circular FIFO: the oldest entry is lost */
 };
 

@@ -1,4 +1,4 @@
-// Shows ARINC 429 words taken apart. Standard input has the words in hexadecimal, one to a line.
+// Shows ARINC 429 words taken apart. Standard input has the words in hexadecimal; any other byte parts them.
 use libc::STDIN_FILENO;
 use libc::STDOUT_FILENO;
 
@@ -35,27 +35,56 @@ fn digit(byte: u8) -> u32 {
     if b'A' <= byte && byte <= b'F' {
         return (byte - b'A') as u32 + 10;
     }
+    if b'a' <= byte && byte <= b'f' {
+        return (byte - b'a') as u32 + 10;
+    }
     16
 }
 
-// Shows each word of a text: a byte that is no digit ends a word.
-fn show_all(text: &[u8]) {
-    let mut word: u32 = 0;
-    let mut at = 0;
-    while at < text.len() {
-        let value = digit(text[at]);
-        if value < 16 {
-            word = word % 0x1000_0000 * 16 + value;
-        } else {
-            show(word);
-            word = 0;
-        }
-        at += 1;
-    }
+// A word that is being read: what its digits give so far, and whether it has any.
+struct Reading {
+    word: u32,
+    begun: bool,
 }
 
+// A word ends here: it is shown.
+fn end_word(reading: Reading) -> Reading {
+    if reading.begun {
+        show(reading.word);
+    }
+    Reading { word: 0, begun: false }
+}
+
+// The next byte of the text. Of more than eight digits the last eight count.
+fn take(reading: Reading, byte: u8) -> Reading {
+    let value = digit(byte);
+    if value < 16 {
+        return Reading { word: reading.word % 0x1000_0000 * 16 + value, begun: true };
+    }
+    end_word(reading)
+}
+
+// A word may go on behind the end of a part of the text.
+fn take_all(reading: Reading, text: &[u8]) -> Reading {
+    let mut reading = reading;
+    let mut at = 0;
+    while at < text.len() {
+        reading = take(reading, text[at]);
+        at += 1;
+    }
+    reading
+}
+
+// The loop counts its turns down, from a number that no run uses up.
 fn main() {
     let mut buffer = io::buffer();
-    let n = io::read_full(STDIN_FILENO, &mut buffer);
-    show_all(&buffer[..n]);
+    let mut reading = Reading { word: 0, begun: false };
+    let mut turns = u64::MAX;
+    let mut n = buffer.len();
+    while turns > 0 && n == buffer.len() {
+        n = io::read_full(STDIN_FILENO, &mut buffer);
+        reading = take_all(reading, &buffer[..n]);
+        turns -= 1;
+    }
+    end_word(reading);
 }
