@@ -7,7 +7,7 @@ use Prim.Native.Nat.{ℕ, _+_, _-_, _≤_, _<_}
 use native.Mathlib.Omega.{arith}
 use lib.ListN.{length, set, drop, length-set}
 use lib.Seq.{sets, length-sets, getD-set-same, getD-set-other}
-use Rattle.ring.specs.Ring.{held, slot, end, appended, next, slots}
+use Rattle.ring.specs.Ring.{held, slot, end, appended, next}
 use Rattle.ring.proofs.Words.{sets-other}
 use Rattle.ring.proofs.Laws.{none-held, length-held, append, take-oldest, overwrite, elsewhere-set}
 use Rattle.block.specs.Layout.{word, Whole, blockWords}

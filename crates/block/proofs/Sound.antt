@@ -52,8 +52,6 @@ pub decides : (b : List ℕ) (n : ℕ) (t : Bool) → n ≡ ranged → t ≡ all
 unfolding sound
 decides b n t e p = ap (λ (s : Bool). s && leb (word b receiveLevel) (word b receiveSize)) (sym (rw e at p))
 
--- ---- a sound block, word by word
-
 -- a number between the least and the greatest is in range
 pub in-range : (i v : ℕ) → getD leasts i 0 ≤ v → v ≤ getD greatests i 0 → inRange i v ≡ true
 in-range i v l u = is-within leasts greatests i v l u

@@ -4,10 +4,11 @@ use mathlib.Core.List.{List, [], _∷_, _++_}
 use lib.ListN.{replicate, set}
 use lib.Seq.{sets}
 use Rattle.block.specs.Layout.{settings, receiver, parity, receiveSize}
+use Rattle.block.specs.Modes.{fifoMode, bounded, immediate}
 
 -- "Factory: receiver, transmitter, match and stamps off, parity on, FIFO mode, bounded, immediate"; size 255, thresholds 128 and 32, rate 4
 abbrev pub factorySettings : List ℕ
-factorySettings = 0 ∷ 0 ∷ 1 ∷ 0 ∷ 0 ∷ 0 ∷ 0 ∷ 0 ∷ 255 ∷ 128 ∷ 32 ∷ 4 ∷ []
+factorySettings = 0 ∷ 0 ∷ 1 ∷ 0 ∷ 0 ∷ fifoMode ∷ bounded ∷ immediate ∷ 255 ∷ 128 ∷ 32 ∷ 4 ∷ []
 
 -- a block of n words as power-up leaves it: factory settings, and 0 in every other word
 abbrev pub factoryOf : ℕ → List ℕ

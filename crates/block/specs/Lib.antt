@@ -1,4 +1,5 @@
 pub mod Layout
+pub mod Modes
 pub mod Ranges
 pub mod Factory
 pub mod Clearing

@@ -11,6 +11,9 @@ use crate::layout::RECEIVER;
 use crate::layout::STAMPS;
 use crate::layout::TRANSMIT_MODE;
 use crate::layout::TRANSMITTER;
+use crate::modes::BOUNDED;
+use crate::modes::FIFO_MODE;
+use crate::modes::IMMEDIATE;
 ghost use mathlib.Core.Path.{_≡_};
 ghost use Rattle.block.specs.Layout.{Whole};
 ghost use Rattle.block.specs.Factory.{nonzeroToFactory, settingsToFactory};
@@ -36,8 +39,8 @@ pub fn reset_settings(block: &mut [u32])
     block[TRANSMITTER] = 0;
     block[MATCH] = 0;
     block[STAMPS] = 0;
-    block[RECEIVE_MODE] = 0;
-    block[FIFO_KIND] = 0;
-    block[TRANSMIT_MODE] = 0;
+    block[RECEIVE_MODE] = FIFO_MODE;
+    block[FIFO_KIND] = BOUNDED;
+    block[TRANSMIT_MODE] = IMMEDIATE;
     reset_nonzero_settings(block);
 }

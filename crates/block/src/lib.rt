@@ -4,5 +4,6 @@ pub mod factory;
 pub mod layout;
 pub mod matching;
 pub mod memories;
+pub mod modes;
 pub mod ranges;
 pub mod settings;

@@ -9,53 +9,53 @@ ghost use Rattle.block.specs.Layout.{Whole, ranged};
 ghost use Rattle.block.specs.Ranges.{inRange, sound};
 
 const LEAST: [u32; 22] = [
-    0,
-    0,
-    0,
-    0,
-    0,
-    0,
-    0,
-    0,
-    1,
-    0,
-    0,
-    word::Gap::LEAST,
-    0,
-    0,
-    0,
-    0,
-    0,
-    0,
-    0,
-    0,
-    0,
-    0,
+    0, // receiver
+    0, // transmitter
+    0, // parity
+    0, // match
+    0, // stamps
+    0, // receive mode
+    0, // FIFO kind
+    0, // transmit mode
+    1, // receive FIFO size
+    0, // almost full threshold
+    0, // almost empty threshold
+    word::Gap::LEAST, // transmit rate
+    0, // receive level
+    0, // receive position
+    0, // transmit level
+    0, // transmit position
+    0, // transmitter state
+    0, // command address
+    0, // async mark
+    0, // latch mask
+    0, // enable mask
+    0, // level mask
 ];
 
 const GREATEST: [u32; 22] = [
-    1,
-    1,
-    1,
-    1,
-    1,
-    1,
-    1,
-    2,
-    255,
-    255,
-    255,
-    word::Gap::GREATEST,
-    255,
-    254,
-    255,
-    254,
-    2,
-    255,
-    1,
-    127,
-    127,
-    127,
+    1, // receiver
+    1, // transmitter
+    1, // parity
+    1, // match
+    1, // stamps
+    1, // receive mode
+    1, // FIFO kind
+    2, // transmit mode
+    255, // receive FIFO size
+    255, // almost full threshold
+    255, // almost empty threshold
+    word::Gap::GREATEST, // transmit rate
+    255, // receive level
+    254, // receive position
+    255, // transmit level
+    254, // transmit position
+    2, // transmitter state
+    255, // command address
+    1, // async mark
+    127, // latch mask
+    127, // enable mask
+    127, // level mask
 ];
 
 // Whether a number is in the range of the word at an offset.

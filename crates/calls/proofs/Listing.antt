@@ -1,4 +1,5 @@
 -- What stands in the words of an answer: a refusal's zeros, a step's four numbers; and the list read back.
+-- Assumes nothing.
 use Prim.Native.Nat.{ℕ, suc, _+_, _-_, _≤_}
 use mathlib.Core.Path.{_≡_, refl, sym, ap, _∙_}
 use mathlib.Core.List.{List, [], _∷_, _++_}

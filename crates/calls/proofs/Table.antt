@@ -1,4 +1,5 @@
 -- The table of ops, row by row: the definition gives each row its call, and every other op none.
+-- Assumes nothing.
 use Prim.Native.Nat.{ℕ, _<_, _≤_}
 use mathlib.Core.Path.{_≡_, refl}
 use native.Mathlib.Omega.{arith}

@@ -11,12 +11,11 @@ use channel_calls::calls::ChannelCall;
 use channel_calls::calls::Did;
 use channel_calls::calls::Given;
 ghost use mathlib.Core.Path.{_≡_};
-ghost use Prim.Native.Nat.{_+_, _≤_, _<_};
+ghost use Prim.Native.Nat.{_≤_, _<_};
 ghost use Rattle.block.specs.Layout.{Whole};
 ghost use Rattle.block.specs.Ranges.{Usable};
 ghost use Rattle.channel_calls.specs.Refusals.{channelRefusal};
 ghost use Rattle.channel.specs.Channel.{didAnswer, didLeave, didSignal, holding, answerShown, blockAnswer, blockAfter};
-ghost use Rattle.channel_calls.specs.declared.calls.Did.{Did};
 
 // An answer that signals nothing.
 fn quiet(answer: Answer) -> Did

@@ -1,5 +1,4 @@
 // Accepted background samples and tests. A sample and a test reset change the module's counter, and no word of the block.
-use channel_calls::calls::Answer;
 use channel_calls::calls::TestCall;
 ghost use mathlib.Core.Path.{_≡_};
 ghost use Rattle.block.specs.Layout.{Whole};

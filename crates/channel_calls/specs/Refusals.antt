@@ -4,6 +4,7 @@ use mathlib.Core.List.{List}
 use mathlib.Core.Bool.{cond}
 use lib.Dec.{eqb, ltb}
 use Rattle.block.specs.Layout.{word, receiveLevel, transmitLevel, transmitMode, transmitter, asyncMark}
+use Rattle.block.specs.Modes.{scheduled}
 use Rattle.block.specs.Settings.{settingRefusal}
 use Rattle.channel_calls.specs.Answers.{settingNumber}
 use Rattle.channel_calls.specs.declared.calls.SettingCall.{SettingCall}
@@ -72,7 +73,7 @@ receiveCallRefusal (ReadMailbox i) b = above 1023 i 4
 -- "Async is refused with 5 outside scheduled mode"; a trigger is "refused with 5 if the transmitter is off"
 abbrev pub transmitCallRefusal : TransmitCall → List ℕ → ℕ
 transmitCallRefusal (WriteFifo w) b = above 254 (word b transmitLevel) 6
-transmitCallRefusal (WriteAsync w) b = first (below 2 (word b transmitMode) 5) (above 0 (word b asyncMark) 6)
+transmitCallRefusal (WriteAsync w) b = first (below scheduled (word b transmitMode) 5) (above 0 (word b asyncMark) 6)
 transmitCallRefusal Trigger b = below 1 (word b transmitter) 5
 transmitCallRefusal Pause b = 0
 transmitCallRefusal Stop b = 0

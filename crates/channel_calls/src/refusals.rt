@@ -7,6 +7,7 @@ use crate::calls::SettingCall;
 use crate::calls::StatusCall;
 use crate::calls::TestCall;
 use crate::calls::TransmitCall;
+use block::modes::SCHEDULED;
 ghost use mathlib.Core.Path.{_≡_};
 ghost use Prim.Native.Nat.{_<_};
 ghost use Rattle.block.specs.Layout.{Whole, settings};
@@ -133,7 +134,7 @@ fn transmit_refusal(block: &[u32], call: TransmitCall) -> u32
     match call {
         TransmitCall::WriteFifo(_) => above(254, block[block::layout::TRANSMIT_LEVEL], 6),
         TransmitCall::WriteAsync(_) => first(
-            below(2, block[block::layout::TRANSMIT_MODE], 5),
+            below(SCHEDULED, block[block::layout::TRANSMIT_MODE], 5),
             above(0, block[block::layout::ASYNC_MARK], 6),
         ),
         TransmitCall::Trigger => below(1, block[block::layout::TRANSMITTER], 5),

@@ -4,7 +4,6 @@ use crate::layout::MODULE_WORDS;
 use crate::layout::MOST;
 use block::layout::WORDS;
 ghost use mathlib.Core.Path.{_≡_};
-ghost use mathlib.Core.Bool.{true};
 ghost use Prim.Native.Nat.{_≤_, _<_};
 ghost use lib.ListN.{length};
 ghost use Rattle.block.specs.Ranges.{within};

@@ -10,7 +10,7 @@ ghost use Rattle.host.specs.Host.{hostWords, hostNumber, hostValues, hos
 const VALUES: usize = 7;
 
 // Fewer words than that are lent for the values.
-const SHORT: u32 = 24;
+const FEW_VALUES: u32 = 24;
 
 // The words of memory that a module of `count` channels needs; 0 where a module cannot have so many channels.
 #[no_mangle]
@@ -50,7 +50,7 @@ pub extern "C" fn nqabelihu_perform(
         × (now (mem .exit) ≡ hostAfter (length (now (values .entry))) (decoded op channel a b) (now (mem .entry))) ⌝ }
 {
     if values.len() < VALUES {
-        return SHORT;
+        return FEW_VALUES;
     }
     let answered = calls::perform::perform_item(mem, op, channel, a, b);
     let words = answered.words;

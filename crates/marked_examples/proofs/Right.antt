@@ -13,8 +13,9 @@ use Rattle.schedule.specs.Schedule.{onward, gapStep, jumpStep, commandStep, ste
 use Rattle.receive.specs.Arrival.{filtered, arrival}
 use Rattle.receive.specs.Arrived.{stored}
 use Rattle.receive.specs.Entries.{stampOf, entryOf, mailed}
-use Rattle.marked_examples.specs.Marked.{receiving, received, marked, Right}
+use Rattle.transmit.specs.Step.{scheduledOutcome}
+use Rattle.marked_examples.specs.Marked.{receiving, received, scheduling, marked, Right}
 
 pub right : Right
-unfolding Right marked sampled latchBit latched receiving received flatten ones reversed oddParity asSent errorMark clamped words held values onward gapStep jumpStep commandStep stepped filtered arrival stored stampOf entryOf mailed
+unfolding Right marked sampled latchBit latched receiving received scheduling scheduledOutcome flatten ones reversed oddParity asSent errorMark clamped words held values onward gapStep jumpStep commandStep stepped filtered arrival stored stampOf entryOf mailed
 right = refl

@@ -5,22 +5,23 @@ use mathlib.Core.List.{List, [], _∷_, _++_, map, flatten}
 use lib.ListN.{set}
 use Rattle.word.specs.Word.{label}
 use Rattle.word.specs.Parity.{asSent, errorMark}
-use Rattle.word.specs.Gap.{clamped}
-use Rattle.block.specs.Layout.{word, receiver, matching, fifoKind, receiveSize, receiveAccepted, receiveOverwritten, blockWords}
+use Rattle.block.specs.Layout.{word, receiver, matching, fifoKind, receiveSize, state, address, receiveAccepted, receiveOverwritten, messageRam, scheduleRam, blockWords}
 use Rattle.block.specs.Factory.{factoryOf}
 use Rattle.block.specs.Fifos.{receiveOffsets, fifo}
+use Rattle.block.specs.Memories.{ramWritten}
 use Rattle.status.specs.Status.{faultWeight, faulty, latched}
 use Rattle.frame.specs.Layout.{stamp}
 use Rattle.frame.specs.Counters.{sampled}
 use Rattle.wide.specs.OnModule.{wideStored}
 use Rattle.wide.specs.declared.calls.WideCall.the-variants.{AdvanceStamp}
-use Rattle.schedule.specs.Codes.{running, code, messageAddress}
+use Rattle.schedule.specs.Codes.{running}
 use Rattle.schedule.specs.Output.{values}
 use Rattle.schedule.specs.Schedule.{stepped}
 use Rattle.schedule.specs.declared.Place.{Place}
 use Rattle.schedule.specs.declared.Outcome.{Outcome}
 use Rattle.receive.specs.Arrival.{arrival, outcome}
 use Rattle.receive.specs.Arrived.{arrived}
+use Rattle.transmit.specs.Step.{scheduledOutcome}
 
 -- a block as power-up leaves it, but with the receiver on and these settings of match, FIFO kind and size
 unfoldable pub receiving : ℕ → ℕ → ℕ → List ℕ
@@ -33,6 +34,10 @@ received b = flatten (fifo receiveOffsets b .held) ++ (word b receiveAccepted �
 -- a running schedule at an address, and its async word, which is waiting where its mark is 1
 abbrev pub runs : ℕ → ℕ → ℕ → Place
 runs address waiting word = record { state = running; address = address; waiting = waiting; word = word }
+
+-- a block whose schedule runs at command 9, which is this one, and has A in message 5
+unfoldable pub scheduling : ℕ → List ℕ
+scheduling command = ramWritten messageRam 5 0xA1 (ramWritten scheduleRam 9 command (set (set (factoryOf blockWords) state running) address 9))
 
 -- the numbers of a step's output, then whether an async word still waits
 abbrev pub sent : Outcome → List ℕ
@@ -78,7 +83,7 @@ marked =
     -- "gap 40: 4, word, 4"
     ∷ record { number = 7; gives = sent (stepped (runs 9 1 0xA1) 1 0x2000 40); says = 4 ∷ 4 ∷ 0xA1 ∷ 4 ∷ 0 ∷ [] }
     -- "gap 3: 4"
-    ∷ record { number = 8; gives = clamped 3 ∷ []; says = 4 ∷ [] }
+    ∷ record { number = 8; gives = sent (stepped (runs 9 0 0) 1 0x2000 3); says = 3 ∷ 4 ∷ 0 ∷ 0 ∷ 0 ∷ [] }
     -- "stamp 0xFFFFFFFF advanced by 2 is 1"
     ∷ record { number = 9; gives = word (wideStored (AdvanceStamp 2) (1 ∷ 0xFFFFFFFF ∷ [])) stamp ∷ []; says = 1 ∷ [] }
     -- "receiver and match on, empty set: filtered"
@@ -86,8 +91,8 @@ marked =
     -- "command 0x1F05 is message 5; 0x7000 and 0x6100 are reserved"
     ∷ record {
       number = 11;
-      gives = code 0x1F05 ∷ messageAddress 0x1F05 ∷ values (stepped (runs 9 0 0) 1 0x7000 0 .output) ++ values (stepped (runs 9 0 0) 1 0x6100 0 .output);
-      says = 1 ∷ 5 ∷ 5 ∷ 9 ∷ 0 ∷ 0 ∷ 5 ∷ 9 ∷ 0 ∷ 0 ∷ [];
+      gives = flatten (map (λ (c : ℕ). values (scheduledOutcome (scheduling c) .output)) (0x1F05 ∷ 0x7000 ∷ 0x6100 ∷ []));
+      says = 2 ∷ 0xA1 ∷ 0 ∷ 0 ∷ 5 ∷ 9 ∷ 0 ∷ 0 ∷ 5 ∷ 9 ∷ 0 ∷ 0 ∷ [];
     }
     ∷ []
 

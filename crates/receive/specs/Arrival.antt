@@ -5,6 +5,7 @@ use mathlib.Core.Bool.{Bool, false, cond}
 use lib.Dec.{eqb, ltb}
 use Rattle.word.specs.Word.{index}
 use Rattle.block.specs.Layout.{word, receiver, matching, fifoKind, receiveLevel, receiveSize}
+use Rattle.block.specs.Modes.{bounded}
 use Rattle.block.specs.Matching.{matched}
 use Rattle.receive.specs.declared.Arrival.{Arrival}
 use Rattle.receive.specs.declared.Arrival.the-variants.{Ignored, Filtered, Appended, Dropped, Overwriting}
@@ -27,4 +28,4 @@ arrival w b =
     cond (eqb (word b receiver) 0) Ignored
     (cond (filtered w b) Filtered
     (cond (ltb (word b receiveLevel) (word b receiveSize)) Appended
-    (cond (eqb (word b fifoKind) 0) Dropped Overwriting)))
+    (cond (eqb (word b fifoKind) bounded) Dropped Overwriting)))

@@ -6,6 +6,7 @@ use lib.Dec.{eqb}
 use lib.ListN.{set}
 use Rattle.word.specs.Parity.{errorMark}
 use Rattle.block.specs.Layout.{word, parity, receiveMode, receiveOverwritten}
+use Rattle.block.specs.Modes.{fifoMode}
 use Rattle.block.specs.Clearing.{counted}
 use Rattle.status.specs.Status.{parityErrorSignal}
 use Rattle.block.specs.Fifos.{receiveOffsets, entryAppended, entryOverwriting}
@@ -38,7 +39,7 @@ unfoldable pub signalled : Arrival → ℕ → List ℕ → ℕ
 signalled Ignored w b = 0
 signalled Filtered w b = 0
 signalled Appended w b = errorSignal w b
-signalled Dropped w b = cond (eqb (word b receiveMode) 0) 0 (errorSignal w b)
+signalled Dropped w b = cond (eqb (word b receiveMode) fifoMode) 0 (errorSignal w b)
 signalled Overwriting w b = errorSignal w b
 
 abbrev pub arrivalSignal : ℕ → List ℕ → ℕ

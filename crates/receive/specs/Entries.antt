@@ -7,6 +7,7 @@ use lib.Seq.{sets}
 use Rattle.word.specs.Word.{index}
 use Rattle.word.specs.Parity.{errorMark}
 use Rattle.block.specs.Layout.{word, parity, stamps, receiveMode, mailboxes}
+use Rattle.block.specs.Modes.{fifoMode}
 
 -- "stamp (0 with stamps off)"
 unfoldable pub stampOf : ℕ → ℕ → ℕ
@@ -22,7 +23,7 @@ indexEntry w = 0 ∷ index w ∷ 0 ∷ []
 
 -- the first "in FIFO mode", the second in mailbox mode
 unfoldable pub entryOf : ℕ → ℕ → List ℕ → List ℕ
-entryOf stamp w b = cond (eqb (word b receiveMode) 0) (wordEntry stamp w b) (indexEntry w)
+entryOf stamp w b = cond (eqb (word b receiveMode) fifoMode) (wordEntry stamp w b) (indexEntry w)
 
 -- the first word of the mailbox of an index
 abbrev pub mailboxAt : ℕ → ℕ
@@ -38,4 +39,4 @@ mailOf stamp w b = (errorMark (word b parity) w + newMark) ∷ w ∷ stampOf (wo
 
 -- "In mailbox mode the mailbox of that index takes" these, "always"
 unfoldable pub mailed : ℕ → ℕ → List ℕ → List ℕ
-mailed stamp w b = cond (eqb (word b receiveMode) 0) b (sets b (mailboxAt (index w)) (mailOf stamp w b))
+mailed stamp w b = cond (eqb (word b receiveMode) fifoMode) b (sets b (mailboxAt (index w)) (mailOf stamp w b))

@@ -13,6 +13,8 @@ use block::layout::RECEIVE_RING;
 use block::layout::RECEIVE_SIZE;
 use block::layout::RECEIVER;
 use block::layout::STAMPS;
+use block::modes::BOUNDED;
+use block::modes::FIFO_MODE;
 use ring::Entry;
 use status::rule::PARITY_ERROR;
 ghost use mathlib.Core.Path.{_≡_};
@@ -68,7 +70,7 @@ fn decide(block: &[u32], word: u32) -> Arrival
     if block[RECEIVE_LEVEL] < block[RECEIVE_SIZE] {
         return Arrival::Appended;
     }
-    if block[FIFO_KIND] == 0 {
+    if block[FIFO_KIND] == BOUNDED {
         return Arrival::Dropped;
     }
     Arrival::Overwriting
@@ -89,7 +91,7 @@ fn entry_of(block: &[u32], stamp: u32, word: u32) -> Entry
     requires { ⌜ Usable (now block) ⌝ }
     ensures { λ r. ⌜ fields r ≡ entryOf stamp word (now (block .entry)) ⌝ }
 {
-    if block[RECEIVE_MODE] == 0 {
+    if block[RECEIVE_MODE] == FIFO_MODE {
         return Entry {
             status: word::error_mark(block[PARITY], word),
             word,
@@ -108,7 +110,7 @@ fn mail(block: &mut [u32], stamp: u32, word: u32)
     requires { ⌜ Usable (now block) ⌝ }
     ensures { λ r. ⌜ now (block .exit) ≡ mailed stamp word (now (block .entry)) ⌝ }
 {
-    if block[RECEIVE_MODE] == 0 {
+    if block[RECEIVE_MODE] == FIFO_MODE {
         return;
     }
     let error = word::error_mark(block[PARITY], word);
@@ -179,7 +181,7 @@ fn signal_of(block: &[u32], decision: Arrival, word: u32) -> u32
         Arrival::Filtered => 0,
         Arrival::Appended => signal,
         Arrival::Dropped => {
-            if block[RECEIVE_MODE] == 0 {
+            if block[RECEIVE_MODE] == FIFO_MODE {
                 return 0;
             }
             signal

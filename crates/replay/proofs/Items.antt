@@ -1,4 +1,5 @@
 -- The memory after an item whose four words are read one by one, after one item more, and after the last whole item.
+-- Assumes nothing.
 use Prim.Native.Nat.{ℕ, suc, _+_, _*_, _/_, _-_, _<_, _≤_}
 use mathlib.Core.Path.{_≡_}
 use mathlib.Core.List.{List}

@@ -5,13 +5,13 @@ use libc::STDIN_FILENO;
 use libc::STDOUT_FILENO;
 ghost use mathlib.Core.Path.{_≡_};
 ghost use Prim.Native.Nat.{_+_, _*_, _/_, _≤_};
-ghost use lib.ListN.{length};
+ghost use lib.ListN.{length, replicate};
 ghost use Rattle.calls.specs.Performed.{itemAfter};
 ghost use Rattle.replay.specs.Replay.{wordAt, itemAt, performed};
 
-// The memory of twelve channels.
+// The memory of twelve channels, all zeros.
 fn memory() -> [u32; 56008]
-    ensures { λ r. ⌜ 56008 ≡ length r ⌝ }
+    ensures { λ r. ⌜ r ≡ replicate 56008 0 ⌝ }
 {
     [0; 56008]
 }

@@ -58,12 +58,6 @@ module _ (r : Ring) where
   length-held b pos zero = refl
   length-held b pos (suc n) = ap suc (length-held b (suc pos) n)
 
-  pub held-at : (b : List ℕ) (pos level i : ℕ) → i < level → getD (held r b pos level) i [] ≡ words b (slot r (pos + i)) (r .width)
-  unfolding held
-  held-at b pos zero i h = absurd (omega arith)
-  held-at b pos (suc n) zero h = rw add-zero
-  held-at b pos (suc n) (suc i) h = rw (add-suc, ← suc-add) (held-at b (suc pos) n i (omega arith))
-
   -- a position counts modulo the number of slots
   held-mod : (b : List ℕ) (j k n : ℕ) → j % r .slots ≡ k % r .slots → held r b j n ≡ held r b k n
   unfolding held

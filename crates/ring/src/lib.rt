@@ -3,7 +3,7 @@
 // in the block: the caller passes them and stores them.
 ghost use mathlib.Core.Path.{_≡_};
 ghost use mathlib.Core.List.{[], _∷_};
-ghost use Prim.Native.Nat.{_+_, _≤_, _<_};
+ghost use Prim.Native.Nat.{_≤_, _<_};
 ghost use lib.ListN.{length};
 ghost use Rattle.ring.specs.Ring.{slots, appended, oldest, next, end, triples, singles};
 ghost use Rattle.ring.specs.Entry.{fields};

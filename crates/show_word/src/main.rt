@@ -52,14 +52,20 @@ fn end_word(reading: Reading) -> Reading {
     if reading.begun {
         show(reading.word);
     }
-    Reading { word: 0, begun: false }
+    Reading {
+        word: 0,
+        begun: false,
+    }
 }
 
 // The next byte of the text. Of more than eight digits the last eight count.
 fn take(reading: Reading, byte: u8) -> Reading {
     let value = digit(byte);
     if value < 16 {
-        return Reading { word: reading.word % 0x1000_0000 * 16 + value, begun: true };
+        return Reading {
+            word: reading.word % 0x1000_0000 * 16 + value,
+            begun: true,
+        };
     }
     end_word(reading)
 }
@@ -78,7 +84,10 @@ fn take_all(reading: Reading, text: &[u8]) -> Reading {
 // The loop counts its turns down, from a number that no run uses up.
 fn main() {
     let mut buffer = io::buffer();
-    let mut reading = Reading { word: 0, begun: false };
+    let mut reading = Reading {
+        word: 0,
+        begun: false,
+    };
     let mut turns = u64::MAX;
     let mut n = buffer.len();
     while turns > 0 && n == buffer.len() {

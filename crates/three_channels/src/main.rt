@@ -1,4 +1,6 @@
 // Three channels in one lent memory: words arrive on the first and are read, a schedule runs on the second, the third overruns.
+use block::modes::CIRCULAR;
+use block::modes::SCHEDULED;
 use channel_calls::calls::Answer;
 use channel_calls::calls::ChannelCall;
 use channel_calls::calls::MemoryCall;
@@ -184,7 +186,7 @@ fn receiving(mem: &mut [u32]) {
 
 fn transmitting(mem: &mut [u32]) {
     set(mem, 2, b"transmitter on", Setting::Transmitter, 1);
-    set(mem, 2, b"scheduled mode", Setting::TransmitMode, 2);
+    set(mem, 2, b"scheduled mode", Setting::TransmitMode, SCHEDULED);
 }
 
 // A schedule of a message, a gap that takes an async word, an interrupt and a stop.
@@ -210,13 +212,14 @@ fn run(mem: &mut [u32]) {
     status(mem, 2);
 }
 
-// A circular FIFO of two takes a third word over the oldest: the counts and the status tell.
+// Channel 3 has a circular FIFO of two.
 fn circular(mem: &mut [u32]) {
     set(mem, 3, b"receiver on", Setting::Receiver, 1);
-    set(mem, 3, b"FIFO circular", Setting::FifoKind, 1);
+    set(mem, 3, b"FIFO circular", Setting::FifoKind, CIRCULAR);
     set(mem, 3, b"FIFO size 2", Setting::ReceiveSize, 2);
 }
 
+// It takes a third word over the oldest: the counts and the status tell.
 fn overrun(mem: &mut [u32]) {
     arrive(mem, 3, b"word 00000001 arrives", 1);
     arrive(mem, 3, b"word 00000002 arrives", 2);
@@ -237,10 +240,5 @@ fn main() {
     run(&mut mem);
     circular(&mut mem);
     overrun(&mut mem);
-    call(
-        &mut mem,
-        4,
-        b"status",
-        ChannelCall::Status(StatusCall::ReadStatus),
-    );
+    status(&mut mem, 4);
 }

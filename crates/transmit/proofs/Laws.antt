@@ -27,7 +27,8 @@ use Rattle.schedule.specs.declared.Output.{Output}
 use Rattle.schedule.specs.declared.Output.the-variants.{Quiet, FifoWord}
 use Rattle.schedule.proofs.Laws.{step-state, step-address, step-waiting, no-fifo-word}
 use Rattle.transmit.specs.Writes.{HasRoom, fifoWritten, asyncWritten}
-use Rattle.transmit.specs.States.{immediate, triggered, afterTrigger, afterPause}
+use Rattle.block.specs.Modes.{immediate, triggered}
+use Rattle.transmit.specs.States.{afterTrigger, afterPause}
 use Rattle.transmit.specs.Step.{oldestWord, sendOutput, sendAfter, immediateOutput, immediateAfter, triggeredOutput, triggeredAfter, place, command, message, scheduledOutcome, scheduledAfter, stepOutput, stepAfter}
 
 -- ---- what all of the calls leave

@@ -1,21 +1,12 @@
--- The transmitter's states and its modes (paper 01, "Transmit" and "Channel settings").
+-- The calls that change the transmitter's state (paper 01, "Transmit").
 use Prim.Native.Nat.{ℕ}
 use mathlib.Core.List.{List}
 use mathlib.Core.Bool.{cond}
 use lib.Dec.{eqb}
 use lib.ListN.{set}
 use Rattle.block.specs.Layout.{word, state, transmitMode}
+use Rattle.block.specs.Modes.{immediate}
 use Rattle.schedule.specs.Codes.{idle, running, paused}
-
--- "transmit mode immediate, triggered or scheduled"
-abbrev pub immediate : ℕ
-immediate = 0
-
-abbrev pub triggered : ℕ
-triggered = 1
-
-abbrev pub scheduled : ℕ
-scheduled = 2
 
 -- "Trigger: idle or paused to running"; a running one runs on
 abbrev pub afterTrigger : List ℕ → List ℕ

@@ -15,7 +15,7 @@ use Rattle.schedule.specs.declared.Place.{Place}
 use Rattle.schedule.specs.declared.Outcome.{Outcome}
 use Rattle.schedule.specs.declared.Output.{Output}
 use Rattle.schedule.specs.declared.Output.the-variants.{Quiet, FifoWord}
-use Rattle.transmit.specs.States.{immediate, triggered}
+use Rattle.block.specs.Modes.{immediate, triggered}
 
 -- ---- a word of the FIFO
 

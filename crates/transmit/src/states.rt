@@ -1,19 +1,13 @@
-// The transmitter's modes, and the calls that change its state.
+// The calls that change the transmitter's state.
 use block::layout::STATE;
 use block::layout::TRANSMIT_MODE;
+use block::modes::IMMEDIATE;
 use schedule::IDLE;
 use schedule::PAUSED;
 use schedule::RUNNING;
 ghost use mathlib.Core.Path.{_≡_};
 ghost use Rattle.block.specs.Ranges.{Usable};
 ghost use Rattle.transmit.specs.States.{afterTrigger, afterPause};
-
-// The transmit modes.
-pub const IMMEDIATE: u32 = 0;
-
-pub const TRIGGERED: u32 = 1;
-
-pub const SCHEDULED: u32 = 2;
 
 // Sets the transmitter running. The caller has tested that it is on.
 pub fn trigger(block: &mut [u32])

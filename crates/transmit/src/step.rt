@@ -1,6 +1,4 @@
 // One step of the transmitter gives one output.
-use crate::states::IMMEDIATE;
-use crate::states::TRIGGERED;
 use block::layout::ADDRESS;
 use block::layout::ASYNC_MARK;
 use block::layout::ASYNC_WORD;
@@ -15,6 +13,8 @@ use block::layout::TRANSMIT_POSITION;
 use block::layout::TRANSMIT_RING;
 use block::layout::TRANSMIT_SENT;
 use block::layout::TRANSMITTER;
+use block::modes::IMMEDIATE;
+use block::modes::TRIGGERED;
 use schedule::IDLE;
 use schedule::Output;
 use schedule::PAUSED;

@@ -1,6 +1,6 @@
-use mathlib.Core.Path.{refl}
 -- `channel::masks::show` meets its contract: each call from what its callee ensures.
 -- Assumes nothing.
+use mathlib.Core.Path.{refl}
 use borrow.Author.Needs.{needs}
 use Rattle.channel.proofs.masks.show.Statement.{statement}
 use Rattle.channel.proofs.masks.show.Tie as tie

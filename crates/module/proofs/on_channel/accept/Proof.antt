@@ -1,7 +1,6 @@
 -- `module::on_channel::accept` meets its contract: the counter and the block, from what the callees ensure.
 -- Assumes nothing.
-use Rattle.module.proofs.Accepted.{put-length}
-use Rattle.module.proofs.Accepted.{lent, accepted-is}
+use Rattle.module.proofs.Accepted.{put-length, lent, accepted-is}
 use borrow.Author.Needs.{needs}
 use Rattle.module.proofs.on_channel.accept.Statement.{statement}
 use Rattle.module.proofs.on_channel.accept.Tie as tie
