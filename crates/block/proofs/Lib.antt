@@ -3,3 +3,4 @@ pub mod Sound
 pub mod Bits
 pub mod Keeps
 pub mod Fifos
+pub mod Refusals

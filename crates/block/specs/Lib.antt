@@ -7,3 +7,4 @@ pub mod Settings
 pub mod Matching
 pub mod Memories
 pub mod Fifos
+pub mod Refusals

@@ -1,6 +1,8 @@
 -- The number of each setting, and the paper's number and values for each answer.
 use Prim.Native.Nat.{ℕ}
 use mathlib.Core.List.{List, [], _∷_}
+use mathlib.Core.Bool.{cond}
+use lib.Dec.{eqb}
 use lib.ListN.{replicate}
 use Rattle.block.specs.Layout.{receiver, transmitter, parity, matching, stamps, receiveMode, fifoKind, transmitMode, receiveSize, almostFull, almostEmpty, rate}
 use Rattle.receive.specs.Arrival.{outcome}
@@ -88,6 +90,10 @@ channelValues (Tests k) = 0
 channelValues (Reads k) = readValues k
 channelValues (Receive k) = receiveValues k
 channelValues (Transmit k) = transmitValues k
+
+-- an accepted call's answer, or its refusal
+abbrev pub answerUnless : ℕ → Answer → Answer
+answerUnless refusal a = cond (eqb refusal 0) a (Refused refusal)
 
 -- the paper's number of an answer, and its values: 0 is "done"; "A refusal .. and every other result is 0"
 abbrev pub numbersOf : ℕ → Answer → List ℕ

@@ -2,9 +2,10 @@
 use Prim.Native.Nat.{ℕ}
 use mathlib.Core.List.{List}
 use mathlib.Core.Bool.{cond}
-use lib.Dec.{eqb, ltb}
+use lib.Dec.{ltb}
 use Rattle.block.specs.Layout.{word, receiveLevel, transmitLevel, transmitMode, transmitter, asyncMark}
 use Rattle.block.specs.Modes.{scheduled}
+use Rattle.block.specs.Refusals.{first}
 use Rattle.block.specs.Settings.{settingRefusal}
 use Rattle.channel_calls.specs.Answers.{settingNumber}
 use Rattle.channel_calls.specs.declared.calls.SettingCall.{SettingCall}
@@ -28,10 +29,6 @@ above limit x n = cond (ltb limit x) n 0
 
 unfoldable pub below : ℕ → ℕ → ℕ → ℕ
 below limit x n = cond (ltb x limit) n 0
-
--- "Tested in number order; the first that applies is given"
-unfoldable pub first : ℕ → ℕ → ℕ
-first a b = cond (eqb a 0) b a
 
 -- "an argument outside its range"; "a size below the present level is refused with 5"
 abbrev pub settingCallRefusal : SettingCall → List ℕ → ℕ

@@ -12,8 +12,9 @@ ghost use mathlib.Core.Path.{_≡_};
 ghost use Prim.Native.Nat.{_<_};
 ghost use Rattle.block.specs.Layout.{Whole, settings};
 ghost use Rattle.block.specs.Ranges.{Usable};
+ghost use Rattle.block.specs.Refusals.{first};
 ghost use Rattle.channel_calls.specs.Answers.{settingNumber};
-ghost use Rattle.channel_calls.specs.Refusals.{above, below, first, settingCallRefusal, memoryCallRefusal, statusCallRefusal, testCallRefusal, receiveCallRefusal, transmitCallRefusal, channelRefusal};
+ghost use Rattle.channel_calls.specs.Refusals.{above, below, settingCallRefusal, memoryCallRefusal, statusCallRefusal, testCallRefusal, receiveCallRefusal, transmitCallRefusal, channelRefusal};
 
 // The number where `x` is above the limit, else 0.
 fn above(limit: u32, x: u32, number: u32) -> u32

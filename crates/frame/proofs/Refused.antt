@@ -5,25 +5,13 @@ use mathlib.Core.Path.{_≡_, refl}
 use mathlib.Core.Bool.{Bool, true, false, cond}
 use mathlib.Core.List.{List}
 use native.Mathlib.Omega.{arith}
-use borrow.Author.Tests.{ltb-false, eqb-true, eqb-false}
-use lib.Dec.{ltb, eqb}
+use borrow.Author.Tests.{ltb-false}
+use lib.Dec.{ltb}
 use lib.ListN.{length}
 use Rattle.block.specs.Layout.{word}
+use Rattle.block.proofs.Refusals.{past, neither}
 use Rattle.frame.specs.Layout.{count, moduleWords, most, need, Framed}
 use Rattle.frame.specs.Refusals.{frameOf, frameRefusal, partSound, partRefusal, channelOf, soundTo, wideRefusal}
-
--- a test that would have refused was false, and the rest refuses nothing
-pub past : (t : Bool) (k r : ℕ) → cond t (suc k) r ≡ 0 → (t ≡ false) × (r ≡ 0)
-past true k r e = absurd (omega arith)
-past false k r e = (refl, e)
-
--- where an earlier refusal is 0, the next decides
-pub through : (a r : ℕ) → cond (eqb a 0) r a ≡ 0 → (a ≡ 0) × (r ≡ 0)
-through a r e = go (eqb a 0) refl e
-  where
-    go : (t : Bool) → eqb a 0 ≡ t → cond t r a ≡ 0 → (a ≡ 0) × (r ≡ 0)
-    go true p z = (eqb-true a 0 p, z)
-    go false p z = absurd (eqb-false a 0 p z)
 
 holds : (t : Bool) (k : ℕ) → cond t 0 (suc k) ≡ 0 → t ≡ true
 holds true k e = refl
@@ -46,7 +34,7 @@ pub record Standing (m : List ℕ) : Type 0 where
 pub standing : (m : List ℕ) → partRefusal m ≡ 0 → Standing m
 unfolding partRefusal
 standing m e =
-    let a = through (frameRefusal m) _ e in
+    let a = neither (frameRefusal m) _ e in
     record { frame = framed (length m) (word m count) (a .0); part = holds (partSound m) 1 (a .1) }
 
 -- a channel that is not refused
@@ -59,11 +47,11 @@ pub record Addressed (p k ch : ℕ) (ok : Bool) : Type 0 where
 pub addressed : (part k ch : ℕ) (ok : Bool) → channelOf part k ch ok ≡ 0 → Addressed part k ch ok
 unfolding channelOf
 addressed part k ch ok e =
-    let z = through part _ e in
+    let z = neither part _ e in
     let a = past (ltb ch 1) 2 _ (z .1) in
     let b = past (ltb k ch) 2 _ (a .1) in
     record { part = z .0; low = ltb-false _ _ (a .0); high = ltb-false _ _ (b .0); sound = holds ok 1 (b .1) }
 
 pub wide : (m : List ℕ) → wideRefusal m ≡ 0 → (partRefusal m ≡ 0) × (soundTo m (word m count) ≡ true)
 unfolding wideRefusal
-wide m e = let a = through (partRefusal m) _ e in (a .0, holds (soundTo m (word m count)) 1 (a .1))
+wide m e = let a = neither (partRefusal m) _ e in (a .0, holds (soundTo m (word m count)) 1 (a .1))

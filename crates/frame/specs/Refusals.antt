@@ -2,10 +2,11 @@
 use Prim.Native.Nat.{ℕ, zero, suc}
 use mathlib.Core.List.{List, [], _∷_}
 use mathlib.Core.Bool.{Bool, true, cond, _&&_}
-use lib.Dec.{eqb, ltb}
+use lib.Dec.{ltb}
 use lib.ListN.{length}
 use Rattle.block.specs.Layout.{word}
 use Rattle.block.specs.Ranges.{allWithin, sound}
+use Rattle.block.specs.Refusals.{first}
 use Rattle.frame.specs.Layout.{count, moduleWords, most, need, block}
 
 -- "1 short: memory is below the module part, or below the need of its stored channel count where that is 1 to 12";
@@ -35,16 +36,15 @@ partSound m = allWithin partLeasts partGreatests m moduleWords
 
 -- the refusal of the module part: "a stored number of the module part .. is outside its range"
 unfoldable pub partRefusal : List ℕ → ℕ
-partRefusal m = cond (eqb (frameRefusal m) 0) (cond (partSound m) 0 2) (frameRefusal m)
+partRefusal m = first (frameRefusal m) (cond (partSound m) 0 2)
 
 -- the refusal of an addressed channel: "channel number outside 1 to the stored count", "or of the addressed channel"
 unfoldable pub channelOf : ℕ → ℕ → ℕ → Bool → ℕ
 channelOf part k ch ok =
-    cond (eqb part 0)
+    first part
     (cond (ltb ch 1) 3
     (cond (ltb k ch) 3
     (cond ok 0 2)))
-    part
 
 abbrev pub addressRefusal : List ℕ → ℕ → ℕ
 addressRefusal m ch = channelOf (partRefusal m) (word m count) ch (sound (block m ch))
@@ -56,4 +56,4 @@ soundTo m (suc n) = soundTo m n && sound (block m (suc n))
 
 -- "(module-wide calls, which name no channel: any channel)"
 unfoldable pub wideRefusal : List ℕ → ℕ
-wideRefusal m = cond (eqb (partRefusal m) 0) (cond (soundTo m (word m count)) 0 2) (partRefusal m)
+wideRefusal m = first (partRefusal m) (cond (soundTo m (word m count)) 0 2)

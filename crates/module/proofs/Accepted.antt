@@ -5,21 +5,21 @@ use mathlib.Core.Path.{_≡_, sym, ap, ap₂, _∙_}
 use mathlib.Core.Bool.{Bool, cond}
 use mathlib.Core.List.{List}
 use native.Mathlib.Omega.{arith}
-use borrow.Author.Tests.{eq-eqb, ne-eqb}
+use borrow.Author.Tests.{ne-eqb}
 use borrow.Rule.Slice.PartMut.{putMid, same-len-mid}
 use lib.ListN.{length, take, drop, set, length-set}
 use Rattle.block.specs.Layout.{word, blockWords}
 use Rattle.status.specs.Status.{faulty}
-use Rattle.channel_calls.specs.Refusals.{channelRefusal}
+use Rattle.block.specs.Refusals.{leaveUnless}
+use Rattle.channel_calls.specs.Answers.{answerUnless}
 use Rattle.channel.specs.Channel.{blockAnswer, blockAfter}
 use Rattle.channel_calls.specs.declared.calls.Answer.{Answer}
 use Rattle.channel_calls.specs.declared.calls.Answer.the-variants.{Refused}
 use Rattle.channel_calls.specs.declared.calls.ChannelCall.{ChannelCall}
 use Rattle.channel_calls.specs.declared.calls.Given.{Given}
 use Rattle.frame.specs.Layout.{stamp, threshold, most, base, block, withBlock}
-use Rattle.frame.specs.Refusals.{addressRefusal}
 use Rattle.frame.proofs.Blocks.{Within, part-is, put-is, block-set}
-use Rattle.module.specs.OnChannel.{Room, onRefusal, counterAt, counterAfter, givenOf, acceptedAfter, answerUnless, leaveUnless}
+use Rattle.module.specs.OnChannel.{Room, counterAt, counterAfter, givenOf, acceptedAfter}
 
 -- a channel of a memory that is not refused
 pub room : {m : List ℕ} {ch : ℕ} → Within m ch → Room m ch
@@ -61,17 +61,6 @@ refused r R a m′ m e no′ = let z = ne-eqb R 0 (λ q. no′ (e ∙ q)) in
 
 pub done : (R : ℕ) (a a′ : Answer) (m₁ m′ m : List ℕ) → R ≡ 0 → a ≡ a′ → m₁ ≡ m′ → (a ≡ answerUnless R a′) × (m₁ ≡ leaveUnless R m′ m)
 done R a a′ m₁ m′ m z p q = (rw z p, rw z q)
-
--- the refusal of a call on a channel, from the address's or from the call's
-pub by-address : (m : List ℕ) (ch : ℕ) (k : ChannelCall) (r : ℕ) → r ≡ addressRefusal m ch → (r ≡ 0 → ⊥) → r ≡ onRefusal ch k m
-unfolding onRefusal
-by-address m ch k r e no′ =
-    let z = ne-eqb (addressRefusal m ch) 0 (λ q. no′ (e ∙ q)) in
-    e ∙ sym (ap (λ (t : Bool). cond t (channelRefusal k (block m ch)) (addressRefusal m ch)) z)
-
-pub by-call : (m : List ℕ) (ch : ℕ) (k : ChannelCall) (r : ℕ) → addressRefusal m ch ≡ 0 → r ≡ channelRefusal k (block m ch) → r ≡ onRefusal ch k m
-unfolding onRefusal
-by-call m ch k r z e = rw (eq-eqb (addressRefusal m ch) 0 z) e
 
 -- the memory keeps its length
 pub put-length : (m last : List ℕ) (ch x : ℕ)

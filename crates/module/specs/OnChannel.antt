@@ -1,15 +1,14 @@
 -- A call on one channel of a module's memory (paper 01, "Memory and answer numbers" and "Faults and status").
 use Prim.Native.Nat.{ℕ, _+_, _-_, _≤_}
 use mathlib.Core.List.{List}
-use mathlib.Core.Bool.{cond}
-use lib.Dec.{eqb}
 use lib.ListN.{length, set}
 use Rattle.block.specs.Layout.{word, blockWords}
+use Rattle.block.specs.Refusals.{first, leaveUnless}
 use Rattle.status.specs.Status.{faulty}
 use Rattle.channel_calls.specs.Refusals.{channelRefusal}
+use Rattle.channel_calls.specs.Answers.{answerUnless}
 use Rattle.channel.specs.Channel.{blockAnswer, blockAfter}
 use Rattle.channel_calls.specs.declared.calls.Answer.{Answer}
-use Rattle.channel_calls.specs.declared.calls.Answer.the-variants.{Refused}
 use Rattle.channel_calls.specs.declared.calls.ChannelCall.{ChannelCall}
 use Rattle.channel_calls.specs.declared.calls.ChannelCall.the-variants.{Settings, Memories, Status, Tests, Reads, Receive, Transmit}
 use Rattle.channel_calls.specs.declared.calls.TestCall.{TestCall}
@@ -19,16 +18,9 @@ use Rattle.frame.specs.Layout.{stamp, threshold, counters, moduleWords, most, b
 use Rattle.frame.specs.Counters.{sampled}
 use Rattle.frame.specs.Refusals.{addressRefusal}
 
--- "A refusal (1 to 7) changes no lent word": an answer, and what is left, where a refusal is 0
-abbrev pub answerUnless : ℕ → Answer → Answer
-answerUnless refusal a = cond (eqb refusal 0) a (Refused refusal)
-
-abbrev pub leaveUnless : ℕ → List ℕ → List ℕ → List ℕ
-leaveUnless refusal m′ m = cond (eqb refusal 0) m′ m
-
 -- "Tested in number order; the first that applies is given": the memory and the channel, then the call
 unfoldable pub onRefusal : ℕ → ChannelCall → List ℕ → ℕ
-onRefusal ch k m = cond (eqb (addressRefusal m ch) 0) (channelRefusal k (block m ch)) (addressRefusal m ch)
+onRefusal ch k m = first (addressRefusal m ch) (channelRefusal k (block m ch))
 
 -- a channel that stands in the memory
 pub record Room (m : List ℕ) (ch : ℕ) : Type 0 where

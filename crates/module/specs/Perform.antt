@@ -2,7 +2,8 @@
 use Prim.Native.Nat.{ℕ}
 use mathlib.Core.List.{List}
 use lib.ListN.{length}
-use Rattle.channel_calls.specs.Answers.{channelValues, numbersOf}
+use Rattle.block.specs.Refusals.{leaveUnless}
+use Rattle.channel_calls.specs.Answers.{channelValues, answerUnless, numbersOf}
 use Rattle.channel_calls.specs.declared.calls.Answer.{Answer}
 use Rattle.channel_calls.specs.declared.calls.Answer.the-variants.{Done}
 use Rattle.frame.specs.Refusals.{wideRefusal}
@@ -12,7 +13,7 @@ use Rattle.wide.specs.OnModule.{wideAnswer, wideAfter}
 use Rattle.wide.specs.declared.calls.WideCall.{WideCall}
 use Rattle.wide.specs.declared.calls.WideCall.the-variants.{AdvanceStamp, ZeroStamp, ReadStamp, WriteResolution, ReadResolution, WriteThreshold, ReadThreshold}
 use Rattle.reset.specs.Reset.{resetAfter}
-use Rattle.module.specs.OnChannel.{answerUnless, leaveUnless, onAnswer, onAfter}
+use Rattle.module.specs.OnChannel.{onAnswer, onAfter}
 use Rattle.module.specs.declared.calls.Call.{Call}
 use Rattle.module.specs.declared.calls.Call.the-variants.{PowerUp, Reset, Wide, On}
 

@@ -4,7 +4,7 @@ use crate::on_channel::on_channel;
 use channel_calls::calls::Answer;
 ghost use mathlib.Core.Path.{_≡_};
 ghost use Rattle.channel_calls.specs.declared.calls.Answer.the-variants.{Done};
-ghost use Rattle.module.specs.OnChannel.{answerUnless};
+ghost use Rattle.channel_calls.specs.Answers.{answerUnless};
 ghost use Rattle.module.specs.Perform.{answer, after};
 
 // The answer of a call that gives no values, by its refusal's number.

@@ -36,7 +36,9 @@ use Rattle.wide.proofs.Laws.{ruled-own}
 use Rattle.wide.proofs.Stored.{count-kept, stored-framed}
 use Rattle.reset.specs.Reset.{resetTo, moduleReset}
 use Rattle.reset.proofs.Laws.{reset-own}
-use Rattle.module.specs.OnChannel.{answerUnless, leaveUnless, onRefusal, counterAt, givenOf, acceptedAfter}
+use Rattle.block.specs.Refusals.{leaveUnless}
+use Rattle.channel_calls.specs.Answers.{answerUnless}
+use Rattle.module.specs.OnChannel.{onRefusal, counterAt, givenOf, acceptedAfter}
 use Rattle.module.specs.Perform.{answer, after}
 use Rattle.module.specs.declared.calls.Call.{Call}
 use Rattle.module.specs.declared.calls.Call.the-variants.{Reset, Wide, On}

@@ -22,7 +22,7 @@ use Rattle.channel_laws.proofs.Calls.{left}
 use Rattle.frame.specs.Layout.{count, counters, most, base, block}
 use Rattle.frame.specs.Counters.{top, sampled}
 use Rattle.frame.specs.Refusals.{partLeasts, partGreatests, addressRefusal}
-use Rattle.frame.proofs.Refused.{through}
+use Rattle.block.proofs.Refusals.{neither}
 use Rattle.frame.proofs.Blocks.{Within, within-memory, block-set, with-word, block-same, block-other}
 use Rattle.module.specs.OnChannel.{onRefusal, counterAt, counterAfter, givenOf, acceptedAfter}
 use Rattle.module_laws.specs.Sane.{Sane}
@@ -64,11 +64,11 @@ greatest-is j h = eqb→eq _ top (at (λ i. eqb (getD partGreatests (counters + 
 module _ (ch : ℕ) (k : ChannelCall) (m : List ℕ) (e : onRefusal ch k m ≡ 0) where
   pub on-within : Within m ch
   unfolding onRefusal
-  on-within = within-memory m ch (through (addressRefusal m ch) _ e .0)
+  on-within = within-memory m ch (neither (addressRefusal m ch) _ e .0)
 
   pub on-call : channelRefusal k (block m ch) ≡ 0
   unfolding onRefusal
-  on-call = through (addressRefusal m ch) _ e .1
+  on-call = neither (addressRefusal m ch) _ e .1
 
   usable-after : Usable (blockAfter (givenOf ch k m) k (block m ch))
   usable-after = left (givenOf ch k m) k (on-within .usable) on-call .usable

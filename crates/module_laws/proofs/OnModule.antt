@@ -15,7 +15,7 @@ use Rattle.channel_laws.specs.Kept.{keptOf}
 use Rattle.channel_laws.proofs.Holds.{store-kept}
 use Rattle.frame.specs.Layout.{count, stamp, resolution, threshold, moduleWords, block}
 use Rattle.frame.specs.Refusals.{partLeasts, partGreatests, wideRefusal}
-use Rattle.frame.proofs.Refused.{past, through}
+use Rattle.block.proofs.Refusals.{past, neither}
 use Rattle.frame.proofs.Blocks.{block-set}
 use Rattle.frame.proofs.Each.{each-word, each-block}
 use Rattle.wide.specs.Refusals.{rangeRefusal, wideCallRefusal, callRefusal}
@@ -96,7 +96,7 @@ left ReadThreshold s e = reads s
 module _ {m : List ℕ} (s : Sane m) (k : WideCall) (e : callRefusal k m ≡ 0) where
   accepted : Left m (wideStored k m) (wideAfter k m)
   unfolding callRefusal
-  accepted = left k s (through (wideRefusal m) _ e .1)
+  accepted = left k s (neither (wideRefusal m) _ e .1)
 
   pub wide-sane : Sane (wideAfter k m)
   wide-sane = accepted .sane

@@ -13,7 +13,7 @@ use Rattle.block.specs.Layout.{word, blockWords}
 use Rattle.block.specs.Factory.{factoryOf}
 use Rattle.frame.specs.Layout.{moduleWords, most, need, base, block, Framed}
 use Rattle.frame.proofs.Parts.{part, part-back}
-use Rattle.frame.proofs.Refused.{past}
+use Rattle.block.proofs.Refusals.{past}
 use Rattle.power.specs.Power.{powerRefusal, repeated, factoryPart, factoryBlocks, powered}
 use Rattle.power.proofs.Filling.{repeated-length, factory-length}
 

@@ -2,10 +2,11 @@
 use Prim.Native.Nat.{ℕ, zero, suc}
 use mathlib.Core.List.{List, [], _∷_, _++_}
 use mathlib.Core.Bool.{cond}
-use lib.Dec.{ltb, eqb}
+use lib.Dec.{ltb}
 use lib.ListN.{length, drop}
 use Rattle.block.specs.Layout.{blockWords}
 use Rattle.block.specs.Factory.{factoryOf}
+use Rattle.block.specs.Refusals.{leaveUnless}
 use Rattle.frame.specs.Layout.{most, need}
 
 -- "at power-up a count outside 1 to 12" is 4; 1 is "below the need of the asked count, where that is 1 to 12"
@@ -34,4 +35,4 @@ powered k m = factoryPart k ++ (factoryBlocks k ++ drop (need k) m)
 
 -- "A refusal (1 to 7) changes no lent word"
 abbrev pub powerAfter : ℕ → List ℕ → List ℕ
-powerAfter k m = cond (eqb (powerRefusal k (length m)) 0) (powered k m) m
+powerAfter k m = leaveUnless (powerRefusal k (length m)) (powered k m) m

@@ -1,10 +1,9 @@
 -- Module reset: the memory that it leaves (paper 01, "Faults and status"; it is refused as every module-wide call is, with 1 and 2).
 use Prim.Native.Nat.{ℕ}
 use mathlib.Core.List.{List, _++_}
-use mathlib.Core.Bool.{cond}
-use lib.Dec.{eqb}
 use lib.ListN.{drop}
 use Rattle.block.specs.Layout.{word}
+use Rattle.block.specs.Refusals.{leaveUnless}
 use Rattle.status.specs.Tests.{blockReset}
 use Rattle.frame.specs.Layout.{count, moduleWords, block}
 use Rattle.frame.specs.Each.{eachTo}
@@ -25,4 +24,4 @@ moduleReset m = factoryPart (word m count) ++ drop moduleWords (resetTo (word m 
 
 -- "A refusal (1 to 7) changes no lent word"
 abbrev pub resetAfter : List ℕ → List ℕ
-resetAfter m = cond (eqb (wideRefusal m) 0) (moduleReset m) m
+resetAfter m = leaveUnless (wideRefusal m) (moduleReset m) m

@@ -2,7 +2,8 @@
 use Prim.Native.Nat.{ℕ}
 use mathlib.Core.List.{List}
 use mathlib.Core.Bool.{cond}
-use lib.Dec.{eqb, ltb}
+use lib.Dec.{ltb}
+use Rattle.block.specs.Refusals.{first}
 use Rattle.frame.specs.Refusals.{wideRefusal}
 use Rattle.wide.specs.declared.calls.WideCall.{WideCall}
 use Rattle.wide.specs.declared.calls.WideCall.the-variants.{AdvanceStamp, ZeroStamp, ReadStamp, WriteResolution, ReadResolution, WriteThreshold, ReadThreshold}
@@ -23,4 +24,4 @@ wideCallRefusal ReadThreshold = 0
 
 -- "Tested in number order; the first that applies is given": the memory, then the call
 unfoldable pub callRefusal : WideCall → List ℕ → ℕ
-callRefusal k m = cond (eqb (wideRefusal m) 0) (wideCallRefusal k) (wideRefusal m)
+callRefusal k m = first (wideRefusal m) (wideCallRefusal k)

@@ -8,12 +8,12 @@ use frame::layout::RESOLUTION;
 use frame::layout::STAMP;
 use frame::layout::THRESHOLD;
 ghost use mathlib.Core.Path.{_≡_};
-ghost use mathlib.Core.Bool.{cond};
 ghost use Prim.Native.Nat.{_<_};
-ghost use lib.Dec.{eqb};
 ghost use lib.ListN.{length, set};
 ghost use Rattle.block.specs.Layout.{word};
-ghost use Rattle.channel_calls.specs.declared.calls.Answer.the-variants.{Done, Refused};
+ghost use Rattle.block.specs.Refusals.{leaveUnless};
+ghost use Rattle.channel_calls.specs.Answers.{answerUnless};
+ghost use Rattle.channel_calls.specs.declared.calls.Answer.the-variants.{Done};
 ghost use Rattle.frame.specs.Layout.{count, moduleWords, Framed};
 ghost use Rattle.wide.specs.Refusals.{callRefusal};
 ghost use Rattle.wide.specs.Rule.{ruledAll};
@@ -51,7 +51,8 @@ fn accept(mem: &mut [u32], call: WideCall) -> Answer
 
 // A module-wide call: refused, or done.
 pub fn on_module(mem: &mut [u32], call: WideCall) -> Answer
-    ensures { λ r. ⌜ (r ≡ cond (eqb (callRefusal call (now (mem .entry))) 0) (wideAnswer call (now (mem .entry))) (Refused (callRefusal call (now (mem .entry))))) × (now (mem .exit) ≡ cond (eqb (callRefusal call (now (mem .entry))) 0) (wideAfter call (now (mem .entry))) (now (mem .entry))) ⌝ }
+    ensures { λ r. ⌜ (r ≡ answerUnless (callRefusal call (now (mem .entry))) (wideAnswer call (now (mem .entry))))
+        × (now (mem .exit) ≡ leaveUnless (callRefusal call (now (mem .entry))) (wideAfter call (now (mem .entry))) (now (mem .entry))) ⌝ }
 {
     let memory = wide_refusal(mem);
     if memory != 0 {

@@ -2,7 +2,8 @@
 -- Assumes nothing.
 use mathlib.Core.Path.{refl, ap}
 use native.Mathlib.Omega.{arith}
-use Rattle.channel_calls.proofs.Accepted.{not-above, neither}
+use Rattle.block.proofs.Refusals.{neither}
+use Rattle.channel_calls.proofs.Accepted.{not-above}
 use Rattle.channel_calls.specs.declared.calls.Answer.the-variants.{Value}
 use borrow.Author.Needs.{needs}
 use Rattle.channel.proofs.memories.on_memory.Statement.{statement}

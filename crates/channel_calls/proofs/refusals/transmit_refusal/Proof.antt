@@ -1,7 +1,7 @@
 -- `channel_calls::refusals::transmit_refusal` meets its contract: each call from what its callee ensures.
 -- Assumes nothing.
 use mathlib.Core.Path.{ap₂, _∙_}
-use Rattle.channel_calls.specs.Refusals.{first}
+use Rattle.block.specs.Refusals.{first}
 use borrow.Author.Needs.{needs}
 use Rattle.channel_calls.proofs.refusals.transmit_refusal.Statement.{statement}
 use Rattle.channel_calls.proofs.refusals.transmit_refusal.Tie as tie

@@ -1,14 +1,17 @@
 -- `module::on_channel::on_channel` meets its contract: refused by the address, refused by the call, or done.
 -- Assumes nothing.
 use mathlib.Core.Path.{sym, _∙_}
+use Rattle.block.proofs.Refusals.{is-one, is-other}
 use Rattle.frame.proofs.Blocks.{within-memory, part-is}
-use Rattle.module.proofs.Accepted.{room, refused, done, by-address, by-call}
+use Rattle.module.specs.OnChannel.{onRefusal}
+use Rattle.module.proofs.Accepted.{room, refused, done}
 use borrow.Author.Needs.{needs}
 use Rattle.module.proofs.on_channel.on_channel.Statement.{statement}
 use Rattle.module.proofs.on_channel.on_channel.Tie as tie
 
 returns : tie.Need-returns
-returns c = let start = c .before .before .before .before in refused _ _ _ _ _ (by-address (start .args .mem .now) (start .args .channel) (start .args .call) _ (c .before .address-refusal .ensures) (c .if1 .taken)) (c .if1 .taken)
+unfolding onRefusal
+returns c = refused _ _ _ _ _ (is-one _ _ _ (c .before .address-refusal .ensures) (c .if1 .taken)) (c .if1 .taken)
 
 sub-from : tie.Need-sub-from
 sub-from c = within-memory _ _ (sym (c .before .address-refusal .ensures) ∙ c .if1 .left) .low
@@ -20,13 +23,26 @@ refusal-requires : tie.Need-refusal-requires
 refusal-requires c κs = rw part-is (within-memory _ _ (sym (c .before .before .before .address-refusal .ensures) ∙ c .before .before .if1 .left) .usable)
 
 returns-2 : tie.Need-returns-2
-returns-2 c = let start = c .before .before .before .before .before .before .before .before in refused _ _ _ _ _ (by-call (start .args .mem .now) (start .args .channel) (start .args .call) _ (sym (c .before .before .before .before .before .address-refusal .ensures) ∙ c .before .before .before .before .if1 .left) (rw part-is at (c .before .refusal .ensures))) (c .if2 .taken)
+unfolding onRefusal
+returns-2 c =
+    let address = c .before .before .before .before in
+    let z = sym (address .before .address-refusal .ensures) ∙ address .if1 .left in
+    refused _ _ _ _ _ (is-other _ _ _ z (rw part-is at (c .before .refusal .ensures))) (c .if2 .taken)
 
 accept-requires : tie.Need-accept-requires
-accept-requires c κs = let w = within-memory _ _ (sym (c .before .before .before .before .before .before .address-refusal .ensures) ∙ c .before .before .before .before .before .if1 .left) in (room w, w .usable, sym (rw part-is at (c .before .before .refusal .ensures)) ∙ c .before .if2 .left)
+accept-requires c κs =
+    let address = c .before .before .before .before .before in
+    let w = within-memory _ _ (sym (address .before .address-refusal .ensures) ∙ address .if1 .left) in
+    (room w, w .usable, sym (rw part-is at (c .before .before .refusal .ensures)) ∙ c .before .if2 .left)
 
 returns-3 : tie.Need-returns-3
-returns-3 c = let start = c .before .before .before .before .before .before .before .before .before .before .before .before in let z = sym (c .before .before .before .before .before .before .before .before .before .address-refusal .ensures) ∙ c .before .before .before .before .before .before .before .before .if1 .left in done _ _ _ _ _ _ (sym (by-call (start .args .mem .now) (start .args .channel) (start .args .call) _ z (rw part-is at (c .before .before .before .before .before .refusal .ensures))) ∙ c .before .before .before .before .if2 .left) (c .before .before .accept .ensures .0) (c .before .before .accept .ensures .1)
+unfolding onRefusal
+returns-3 c =
+    let call = c .before .before .before .before in
+    let address = call .before .before .before .before in
+    let z = sym (address .before .address-refusal .ensures) ∙ address .if1 .left in
+    let refusal = is-other _ _ _ z (rw part-is at (call .before .refusal .ensures)) in
+    done _ _ _ _ _ _ (sym refusal ∙ call .if2 .left) (c .before .before .accept .ensures .0) (c .before .before .accept .ensures .1)
 
 pub on-channel-spec : {M : Type 1} → statement M
 on-channel-spec =

@@ -3,7 +3,7 @@
 use Prim.Native.Nat.{ℕ}
 use mathlib.Core.Path.{ap, _∙_}
 use Rattle.channel_calls.specs.declared.calls.Answer.the-variants.{Done}
-use Rattle.module.specs.OnChannel.{answerUnless}
+use Rattle.channel_calls.specs.Answers.{answerUnless}
 use borrow.Author.Needs.{needs}
 use Rattle.module.proofs.perform.perform.Statement.{statement}
 use Rattle.module.proofs.perform.perform.Tie as tie

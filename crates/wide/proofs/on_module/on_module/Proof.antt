@@ -1,8 +1,8 @@
 -- `wide::on_module::on_module` meets its contract: refused for the memory, refused for the argument, or done.
 -- Assumes nothing.
-use Rattle.wide.proofs.Called.{by-call}
 use mathlib.Core.Path.{sym, _∙_}
 use Rattle.word.proofs.Branches.{branches}
+use Rattle.block.proofs.Refusals.{is-other}
 use Rattle.frame.proofs.Refused.{wide, standing}
 use Rattle.wide.specs.Refusals.{callRefusal}
 use borrow.Author.Needs.{needs}
@@ -14,7 +14,11 @@ unfolding callRefusal
 returns c = search (branches, ← c .before .wide-refusal .ensures, c .if1 .taken)
 
 returns-2 : tie.Need-returns-2
-returns-2 c = let start = c .before .before .before .before .before .before in let q = by-call (start .args .call) (start .args .mem .now) _ (sym (c .before .before .before .wide-refusal .ensures) ∙ c .before .before .if1 .left) (c .before .call-refusal .ensures) in search (branches, ← q, c .if2 .taken)
+unfolding callRefusal
+returns-2 c =
+    let memory = c .before .before .before in
+    let q = is-other _ _ _ (sym (memory .wide-refusal .ensures) ∙ c .before .before .if1 .left) (c .before .call-refusal .ensures) in
+    search (branches, ← q, c .if2 .taken)
 
 accept-requires : tie.Need-accept-requires
 accept-requires c κs = standing _ (wide _ (sym (c .before .before .before .before .wide-refusal .ensures) ∙ c .before .before .before .if1 .left) .0) .frame
