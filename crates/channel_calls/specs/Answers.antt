@@ -105,6 +105,3 @@ numbersOf n (Fates a r c o t s d) = 0 ∷ a ∷ r ∷ c ∷ o ∷ t ∷ s ∷ d 
 numbersOf n (Arrived a) = 0 ∷ outcome a ∷ []
 numbersOf n (Entry s w t) = 0 ∷ s ∷ w ∷ t ∷ []
 numbersOf n (Stepped o) = 0 ∷ values o
-
-abbrev pub numbers : ChannelCall → Answer → List ℕ
-numbers k a = numbersOf (channelValues k) a

@@ -55,3 +55,7 @@ addressed part k ch ok e =
 pub wide : (m : List ℕ) → wideRefusal m ≡ 0 → (partRefusal m ≡ 0) × (soundTo m (word m count) ≡ true)
 unfolding wideRefusal
 wide m e = let a = neither (partRefusal m) _ e in (a .0, holds (soundTo m (word m count)) 1 (a .1))
+
+-- memory that a module-wide call accepts holds its channels
+pub wide-framed : (m : List ℕ) → wideRefusal m ≡ 0 → Framed (length m) (word m count)
+wide-framed m e = standing m (wide m e .0) .frame

@@ -1,2 +1,3 @@
 pub mod Sampled
 pub mod Accepted
+pub mod Values

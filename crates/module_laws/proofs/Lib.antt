@@ -6,3 +6,4 @@ pub mod Power
 pub mod OnModule
 pub mod Reset
 pub mod Lent
+pub mod Beyond

@@ -3,34 +3,30 @@
 use Prim.Native.Nat.{ℕ}
 use mathlib.Core.Path.{_≡_, sym, ap, _∙_}
 use mathlib.Core.List.{List, _++_}
-use lib.ListN.{length, drop}
+use lib.ListN.{drop}
 use Rattle.word.proofs.Branches.{branches}
 use Rattle.block.specs.Layout.{word}
-use Rattle.frame.specs.Layout.{count, moduleWords, Framed}
+use Rattle.frame.specs.Layout.{count, moduleWords}
 use Rattle.frame.specs.Refusals.{wideRefusal}
-use Rattle.frame.proofs.Refused.{wide, standing}
+use Rattle.frame.proofs.Refused.{wide-framed}
 use Rattle.power.specs.Power.{factoryPart}
 use Rattle.reset.specs.Reset.{moduleReset}
 use borrow.Author.Needs.{needs}
 use Rattle.reset.proofs.reset.Statement.{statement}
 use Rattle.reset.proofs.reset.Tie as tie
 
--- memory that is not refused holds its channels
-holds : (m : List ℕ) (r : ℕ) → r ≡ wideRefusal m → r ≡ 0 → Framed (length m) (word m count)
-holds m r e z = standing m (wide m (sym e ∙ z) .0) .frame
-
 returns : tie.Need-returns
 returns c = search (branches, ← c .before .wide-refusal .ensures, c .if1 .taken)
 
 slice-read-count : tie.Need-slice-read-count
-slice-read-count c = let f = holds _ _ (c .before .before .wide-refusal .ensures) (c .before .if1 .left) in search needs
+slice-read-count c = let f = wide-framed _ (sym (c .before .before .wide-refusal .ensures) ∙ c .before .if1 .left) in search needs
 
 reset-channels-requires : tie.Need-reset-channels-requires
-reset-channels-requires c κs = holds _ _ (c .before .before .before .wide-refusal .ensures) (c .before .before .if1 .left)
+reset-channels-requires c κs = wide-framed _ (sym (c .before .before .before .wide-refusal .ensures) ∙ c .before .before .if1 .left)
 
 fill-part-requires : tie.Need-fill-part-requires
 fill-part-requires c κs =
-    let f = holds _ _ (c .before .before .before .before .before .before .before .wide-refusal .ensures) (c .before .before .before .before .before .before .if1 .left) in
+    let f = wide-framed _ (sym (c .before .before .before .before .before .before .before .wide-refusal .ensures) ∙ c .before .before .before .before .before .before .if1 .left) in
     search needs
 
 returns-2 : tie.Need-returns-2

@@ -3,7 +3,7 @@
 use mathlib.Core.Path.{sym, _∙_}
 use Rattle.word.proofs.Branches.{branches}
 use Rattle.block.proofs.Refusals.{is-other}
-use Rattle.frame.proofs.Refused.{wide, standing}
+use Rattle.frame.proofs.Refused.{wide-framed}
 use Rattle.wide.specs.Refusals.{callRefusal}
 use borrow.Author.Needs.{needs}
 use Rattle.wide.proofs.on_module.on_module.Statement.{statement}
@@ -21,11 +21,16 @@ returns-2 c =
     search (branches, ← q, c .if2 .taken)
 
 accept-requires : tie.Need-accept-requires
-accept-requires c κs = standing _ (wide _ (sym (c .before .before .before .before .wide-refusal .ensures) ∙ c .before .before .before .if1 .left) .0) .frame
+accept-requires c κs =
+    let memory = c .before .before .before in
+    wide-framed _ (sym (memory .before .wide-refusal .ensures) ∙ memory .if1 .left)
 
 returns-3 : tie.Need-returns-3
 unfolding callRefusal
-returns-3 c = search (branches, ← c .before .before .before .before .before .before .before .wide-refusal .ensures, ← c .before .before .before .before .before .call-refusal .ensures, c .before .before .before .before .before .before .if1 .left, c .before .before .before .before .if2 .left, c .before .before .accept .ensures)
+returns-3 c =
+    let call = c .before .before .before .before in
+    let memory = call .before .before in
+    search (branches, ← memory .before .wide-refusal .ensures, ← call .before .call-refusal .ensures, memory .if1 .left, call .if2 .left, c .before .before .accept .ensures)
 
 pub on-module-spec : {M : Type 1} → statement M
 on-module-spec =
