@@ -1,8 +1,8 @@
 -- A call on one channel: what it answers and what it leaves, with the rule (paper 01, "Faults and status").
-use Prim.Native.Nat.{ℕ, _+_, _*_}
+use Prim.Native.Nat.{ℕ, _+_}
 use mathlib.Core.List.{List}
 use Rattle.block.specs.Layout.{word, latch}
-use Rattle.status.specs.Status.{conditions, ruled, pending, faultWeight}
+use Rattle.status.specs.Status.{holding, ruled, pending}
 use Rattle.channel.specs.Groups.{settingAnswer, settingAfter, memoryAnswer, memoryAfter, statusAnswer, statusAfter, testAfter, countAnswer, receiveAnswer, receiveAfter, receiveSignal, transmitAnswer, transmitAfter, transmitSignal}
 use Rattle.channel_calls.specs.declared.calls.StatusCall.{StatusCall}
 use Rattle.channel_calls.specs.declared.calls.StatusCall.the-variants.{ReadStatus, ClearLatch, WriteEnable, ReadEnable, WriteLevelMask, ReadLevelMask, ReadPending}
@@ -40,10 +40,6 @@ didSignal (Tests k) b = 0
 didSignal (Reads k) b = 0
 didSignal (Receive k) b = receiveSignal k b
 didSignal (Transmit k) b = transmitSignal k b
-
--- the conditions that hold of a block, with the fault: 0 or 1
-abbrev pub holding : ℕ → List ℕ → ℕ
-holding fault b = conditions b + faultWeight * fault
 
 -- "After every accepted call on a channel": the rule, on what the call left
 abbrev pub blockAfter : Given → ChannelCall → List ℕ → List ℕ

@@ -11,11 +11,11 @@ use channel_calls::calls::ChannelCall;
 use channel_calls::calls::Did;
 use channel_calls::calls::Given;
 ghost use mathlib.Core.Path.{_≡_};
-ghost use Prim.Native.Nat.{_≤_, _<_};
+ghost use Prim.Native.Nat.{_≤_};
 ghost use Rattle.block.specs.Layout.{Whole};
 ghost use Rattle.block.specs.Ranges.{Usable};
 ghost use Rattle.channel_calls.specs.Refusals.{channelRefusal};
-ghost use Rattle.channel.specs.Channel.{didAnswer, didLeave, didSignal, holding, answerShown, blockAnswer, blockAfter};
+ghost use Rattle.channel.specs.Channel.{didAnswer, didLeave, didSignal, answerShown, blockAnswer, blockAfter};
 
 // An answer that signals nothing.
 fn quiet(answer: Answer) -> Did
@@ -43,14 +43,6 @@ fn act(block: &mut [u32], stamp: u32, call: ChannelCall) -> Did
     }
 }
 
-// The conditions that hold of a block, with the fault.
-fn holding(fault: u32, block: &[u32]) -> u32
-    requires { ⌜ (Whole (now block)) × (fault ≤ 1) ⌝ }
-    ensures { λ r. ⌜ (r ≡ holding fault (now (block .entry))) × (r < 128) ⌝ }
-{
-    status::rule::conditions(block) + status::rule::FAULT * fault
-}
-
 // What a call answers, on the block that the rule left.
 fn show(block: &[u32], call: ChannelCall, answer: Answer) -> Answer
     requires { ⌜ Whole (now block) ⌝ }
@@ -72,10 +64,10 @@ pub fn on_block(block: &mut [u32], given: Given, call: ChannelCall) -> Answer
     requires { ⌜ (Usable (now block)) × (channelRefusal call (now block) ≡ 0) × (given .before ≤ 1) × (given .after ≤ 1) ⌝ }
     ensures { λ r. ⌜ (r ≡ blockAnswer given call (now (block .entry))) × (now (block .exit) ≡ blockAfter given call (now (block .entry))) ⌝ }
 {
-    let before = holding(given.before, block);
+    let before = status::rule::holding(given.before, block);
     let did = act(block, given.stamp, call);
     let answer = did.answer;
-    let holds = holding(given.after, block) + did.signal;
+    let holds = status::rule::holding(given.after, block) + did.signal;
     status::rule::rule(block, before, holds);
     show(block, call, answer)
 }

@@ -1,5 +1,5 @@
 -- The seven conditions, the latch and the rule (paper 01, "Faults and status"). A mask has a bit for each condition: bit 0 weighs 1, bit 6 weighs 64.
-use Prim.Native.Nat.{ℕ, _+_, _/_, _%_}
+use Prim.Native.Nat.{ℕ, _+_, _*_, _/_, _%_}
 use mathlib.Core.List.{List}
 use mathlib.Core.Bool.{Bool, cond}
 use lib.Dec.{eqb, leb, ltb}
@@ -31,6 +31,10 @@ conditions b =
 -- "6 counter above threshold": 1 or 0 (004: "fault when the threshold is surpassed")
 abbrev pub faulty : ℕ → ℕ → ℕ
 faulty counter threshold = flag (ltb threshold counter) 1
+
+-- the conditions that hold of a block, with the fault: 0 or 1
+abbrev pub holding : ℕ → List ℕ → ℕ
+holding fault b = conditions b + faultWeight * fault
 
 -- the bit of weight p of a mask
 abbrev pub bit : ℕ → ℕ → ℕ

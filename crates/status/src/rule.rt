@@ -10,7 +10,7 @@ use block::layout::TRANSMIT_LEVEL;
 ghost use mathlib.Core.Path.{_≡_};
 ghost use Prim.Native.Nat.{_≤_, _<_};
 ghost use Rattle.block.specs.Layout.{Whole};
-ghost use Rattle.status.specs.Status.{flag, conditions, faulty, latchBit, latched, ruled, keptBit, kept, latchCleared, commonBit, common, pending};
+ghost use Rattle.status.specs.Status.{flag, conditions, faulty, holding, latchBit, latched, ruled, keptBit, kept, latchCleared, commonBit, common, pending};
 
 // The conditions that a call may signal, and the fault.
 pub const PARITY_ERROR: u32 = 16;
@@ -47,6 +47,14 @@ pub fn fault(counter: u32, threshold: u32) -> u32
     ensures { λ r. ⌜ (r ≡ faulty counter threshold) × (r ≤ 1) ⌝ }
 {
     flag(threshold < counter, 1)
+}
+
+// The conditions that hold of a block, with the fault: 0 or 1.
+pub fn holding(fault: u32, block: &[u32]) -> u32
+    requires { ⌜ (Whole (now block)) × (fault ≤ 1) ⌝ }
+    ensures { λ r. ⌜ (r ≡ holding fault (now (block .entry))) × (r < 128) ⌝ }
+{
+    conditions(block) + FAULT * fault
 }
 
 // The latch bit of one condition after a call: its weight or 0.

@@ -2,8 +2,7 @@
 use Prim.Native.Nat.{ℕ, _+_, _-_}
 use mathlib.Core.List.{List}
 use Rattle.block.specs.Layout.{word}
-use Rattle.status.specs.Status.{faulty, ruled}
-use Rattle.channel.specs.Channel.{holding}
+use Rattle.status.specs.Status.{faulty, holding, ruled}
 use Rattle.frame.specs.Layout.{count, threshold, counters, block}
 use Rattle.frame.specs.Each.{eachTo}
 

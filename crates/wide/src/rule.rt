@@ -8,8 +8,7 @@ ghost use mathlib.Core.Path.{_≡_};
 ghost use Prim.Native.Nat.{_≤_};
 ghost use lib.ListN.{length};
 ghost use Rattle.block.specs.Layout.{word, Whole};
-ghost use Rattle.status.specs.Status.{ruled};
-ghost use Rattle.channel.specs.Channel.{holding};
+ghost use Rattle.status.specs.Status.{holding, ruled};
 ghost use Rattle.frame.specs.Layout.{count, Framed, withBlock};
 ghost use Rattle.wide.specs.Rule.{ruledChannel, ruledTo};
 
