@@ -11,7 +11,8 @@ use Rattle.ring.specs.Ring.{held, slot, end, appended, next}
 use Rattle.ring.proofs.Words.{sets-other}
 use Rattle.ring.proofs.Laws.{none-held, length-held, append, take-oldest, overwrite, elsewhere-set}
 use Rattle.block.specs.Layout.{word, Whole, blockWords}
-use Rattle.block.specs.Clearing.{counted, cleared}
+use Rattle.block.specs.Clearing.{cleared}
+use Rattle.block.specs.Counts.{counted}
 use Rattle.block.specs.Fifos.{Offsets, receiveOffsets, transmitOffsets, entryAppended, entryOverwriting, entryTaken, Fifo, fifo, accepts, gives, clears, overwrites}
 
 -- a FIFO by its parts

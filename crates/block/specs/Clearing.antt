@@ -1,13 +1,10 @@
 -- Clearing the FIFOs and stopping the transmitter (paper 01, "Fates", "Transmit" and "Channel settings").
-use Prim.Native.Nat.{ℕ, _+_, _%_, _^_}
+use Prim.Native.Nat.{ℕ}
 use mathlib.Core.List.{List}
 use lib.ListN.{set}
 use Rattle.schedule.specs.Codes.{idle}
+use Rattle.block.specs.Counts.{counted}
 use Rattle.block.specs.Layout.{word, receiveLevel, receiveCleared, transmitLevel, transmitCleared, state, address, asyncMark}
-
--- "Each is a 32-bit count that rolls over": a count with n more
-abbrev pub counted : ℕ → ℕ → ℕ
-counted count n = (count + n) % 2 ^ 32
 
 -- "Clearing adds the level it found": a FIFO with its level and its cleared count at these words
 abbrev pub cleared : ℕ → ℕ → List ℕ → List ℕ

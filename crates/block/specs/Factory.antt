@@ -6,9 +6,13 @@ use lib.Seq.{sets}
 use Rattle.block.specs.Layout.{settings, receiver, parity, receiveSize}
 use Rattle.block.specs.Modes.{fifoMode, bounded, immediate}
 
--- "Factory: receiver, transmitter, match and stamps off, parity on, FIFO mode, bounded, immediate"; size 255, thresholds 128 and 32, rate 4
+-- the table's column "Factory": size, almost full and almost empty threshold, rate
+abbrev pub factoryNumbers : List ℕ
+factoryNumbers = 255 ∷ 128 ∷ 32 ∷ 4 ∷ []
+
+-- "Factory: receiver, transmitter, match and stamps off, parity on, FIFO mode, bounded, immediate", and the numbers
 abbrev pub factorySettings : List ℕ
-factorySettings = 0 ∷ 0 ∷ 1 ∷ 0 ∷ 0 ∷ fifoMode ∷ bounded ∷ immediate ∷ 255 ∷ 128 ∷ 32 ∷ 4 ∷ []
+factorySettings = 0 ∷ 0 ∷ 1 ∷ 0 ∷ 0 ∷ fifoMode ∷ bounded ∷ immediate ∷ factoryNumbers
 
 -- a block of n words as power-up leaves it: factory settings, and 0 in every other word
 abbrev pub factoryOf : ℕ → List ℕ
@@ -20,4 +24,4 @@ settingsToFactory b = sets b receiver factorySettings
 
 -- the same for those alone whose factory value is not 0: what zeros lack to be a factory block
 abbrev pub nonzeroToFactory : List ℕ → List ℕ
-nonzeroToFactory b = sets (set b parity 1) receiveSize (255 ∷ 128 ∷ 32 ∷ 4 ∷ [])
+nonzeroToFactory b = sets (set b parity 1) receiveSize factoryNumbers

@@ -5,7 +5,7 @@ use mathlib.Core.List.{List, [], _∷_, _++_}
 use lib.ListN.{set, drop, length}
 use Rattle.ring.specs.Ring.{Ring, held, appended, oldest, next}
 use Rattle.block.specs.Layout.{word, receiveRing, receivePosition, receiveLevel, receiveAccepted, receiveRead, receiveCleared, transmitRing, transmitPosition, transmitLevel, transmitAccepted, transmitSent, transmitCleared}
-use Rattle.block.specs.Clearing.{counted}
+use Rattle.block.specs.Counts.{counted}
 
 -- ---- a FIFO's words
 

@@ -1,5 +1,6 @@
 pub mod Layout
 pub mod Modes
+pub mod Counts
 pub mod Ranges
 pub mod Factory
 pub mod Clearing

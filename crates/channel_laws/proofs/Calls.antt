@@ -9,7 +9,8 @@ use lib.Dec.{eqb}
 use lib.ListN.{take, set}
 use Rattle.block.specs.Layout.{word, settings, receiveLevel, receiveOverwritten, transmitLevel, latch, enable, levelMask}
 use Rattle.block.specs.Ranges.{leasts, greatests, Usable}
-use Rattle.block.specs.Clearing.{counted, stopped}
+use Rattle.block.specs.Clearing.{stopped}
+use Rattle.block.specs.Counts.{counted}
 use Rattle.block.specs.Matching.{matchAt}
 use Rattle.status.specs.Status.{ruled, faultWeight}
 use Rattle.status.specs.Tests.{fifosCleared, tested}

@@ -10,7 +10,8 @@ use Rattle.word.proofs.Computed.{passes}
 use Rattle.ring.proofs.Laws.{none-held}
 use Rattle.block.specs.Layout.{word, settings, receiveLevel, receiveSize, receiveOverwritten, latch, enable, levelMask, ranged, blockWords, Whole}
 use Rattle.block.specs.Ranges.{leasts, greatests, inRange, Usable}
-use Rattle.block.specs.Clearing.{counted, forgotten}
+use Rattle.block.specs.Clearing.{forgotten}
+use Rattle.block.specs.Counts.{counted}
 use Rattle.block.specs.Factory.{factorySettings, factoryOf, settingsToFactory}
 use Rattle.status.specs.Tests.{fifosCleared, blockReset}
 use Rattle.block.specs.Fifos.{Offsets, receiveOffsets, transmitOffsets, fifo, noEntries}

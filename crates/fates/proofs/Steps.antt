@@ -1,6 +1,6 @@
 -- One call, lent the first words of a memory that agrees with the history.
 -- Assumes nothing.
-use Prim.Native.Nat.{ℕ, _+_, _%_, _^_, _≤_, _<_}
+use Prim.Native.Nat.{ℕ, _+_, _≤_, _<_}
 use mathlib.Core.Path.{_≡_, refl, sym, ap, _∙_, subst}
 use mathlib.Core.Bool.{Bool, true, false, cond}
 use mathlib.Core.List.{List, _++_}
@@ -10,7 +10,7 @@ use lib.Dec.{eqb, ltb}
 use lib.ListN.{length, take, drop, set, take-append-drop}
 use lib.Seq.{getD-set-same, getD-set-other}
 use Rattle.block.specs.Layout.{word}
-use Rattle.block.specs.Clearing.{counted}
+use Rattle.block.specs.Counts.{counted}
 use Rattle.channel.specs.Channel.{blockAnswer, blockAfter}
 use Rattle.channel_calls.specs.declared.calls.Answer.{Answer}
 use Rattle.channel_calls.specs.declared.calls.Answer.the-variants.{Done, Refused}
@@ -133,7 +133,7 @@ module _ {h : History} {m : List ℕ} (g : Agrees h m) where
       }
 
   stored : (k : WideCall) → Stored (wideStored k m) (partAfter k (h .part))
-  stored (AdvanceStamp n) = stamped _ (ap (λ (x : ℕ). (x + n) % 2 ^ 32) (g .stamp))
+  stored (AdvanceStamp n) = stamped _ (ap (λ (x : ℕ). counted x n) (g .stamp))
   stored ZeroStamp = stamped 0 refl
   stored ReadStamp = unchanged
   stored (WriteResolution x) =

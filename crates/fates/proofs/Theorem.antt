@@ -11,7 +11,8 @@ use Rattle.channel_laws.specs.Kept.{Kept, keptOf}
 use Rattle.module.specs.Perform.{answer}
 use Rattle.module.specs.declared.calls.Call.{Call}
 use Rattle.module.specs.declared.calls.Call.the-variants.{PowerUp, Reset, Wide, On}
-use Rattle.module_laws.specs.Reduced.{rolled, reduced}
+use Rattle.block.specs.Counts.{rolled}
+use Rattle.module_laws.specs.Reduced.{reduced}
 use Rattle.fates.specs.Run.{run, events}
 use Rattle.fates.specs.History.{start, history}
 use Rattle.fates.specs.Tells.{AllTold}

@@ -1,8 +1,9 @@
 -- The history of a list of calls and answers (paper 01, "Fates": "and nothing from memory").
-use Prim.Native.Nat.{ℕ, _+_, _%_, _^_}
+use Prim.Native.Nat.{ℕ, _+_}
 use mathlib.Core.List.{List, [], _∷_}
 use mathlib.Core.Bool.{Bool, true, false, cond}
 use lib.Dec.{eqb}
+use Rattle.block.specs.Counts.{counted}
 use Rattle.channel_calls.specs.declared.calls.Answer.{Answer}
 use Rattle.channel_calls.specs.declared.calls.Answer.the-variants.{Done, Refused, Value, Waiting, Fates, Arrived, Entry, Stepped}
 use Rattle.channel_laws.specs.Kept.{Kept, keptAfter, keptReset, keptFirst}
@@ -38,7 +39,7 @@ start = poweredUp 0
 
 -- the stamp's calls and the fault threshold's: "An advance by any 32-bit number is added and the counter rolls over. It can be zeroed."
 abbrev pub partAfter : WideCall → Part → Part
-partAfter (AdvanceStamp n) p = record { stamp = (p .stamp + n) % 2 ^ 32; resolution = p .resolution; threshold = p .threshold }
+partAfter (AdvanceStamp n) p = record { stamp = counted (p .stamp) n; resolution = p .resolution; threshold = p .threshold }
 partAfter ZeroStamp p = record { stamp = 0; resolution = p .resolution; threshold = p .threshold }
 partAfter ReadStamp p = p
 partAfter (WriteResolution x) p = record { stamp = p .stamp; resolution = x; threshold = p .threshold }

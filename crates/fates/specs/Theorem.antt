@@ -12,7 +12,7 @@ use Rattle.frame.specs.Layout.{block}
 use Rattle.module.specs.Perform.{answer}
 use Rattle.module.specs.declared.calls.Call.{Call}
 use Rattle.module.specs.declared.calls.Call.the-variants.{PowerUp, Reset, Wide, On}
-use Rattle.module_laws.specs.Reduced.{rolled}
+use Rattle.block.specs.Counts.{rolled}
 use Rattle.fates.specs.Run.{run, events}
 use Rattle.fates.specs.History.{History, start, isRefused, history}
 use Rattle.fates.specs.Agrees.{Agrees}

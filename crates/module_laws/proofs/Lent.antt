@@ -1,6 +1,6 @@
 -- A call that is lent the first words of a sane memory: of the memory l ++ r it is lent l.
 -- Assumes nothing.
-use Prim.Native.Nat.{ℕ, zero, suc, _+_, _%_, _^_, _≤_, _<_}
+use Prim.Native.Nat.{ℕ, zero, suc, _+_, _≤_, _<_}
 use mathlib.Core.Path.{_≡_, refl, sym, ap, _∙_, subst}
 use mathlib.Core.Bool.{Bool, true, false, cond}
 use mathlib.Core.List.{List, _++_, append-assoc}
@@ -9,6 +9,7 @@ use borrow.Author.Tests.{eqb-true, ltb-false, le-ltb, lt-ltb}
 use lib.Dec.{eqb, ltb}
 use lib.ListN.{length, set, drop, length-set, length-append, List·getD-append}
 use lib.Seq.{set-append-left, drop-append-le}
+use Rattle.block.specs.Counts.{counted}
 use Rattle.block.specs.Layout.{word, blockWords}
 use Rattle.block.specs.Ranges.{Usable}
 use Rattle.block.proofs.Sound.{each-in}
@@ -195,7 +196,7 @@ module _ {l r : List ℕ} (f : Front l r) where
 
   wide-leaves : (k : WideCall) → wideAfter k l ++ r ≡ wideAfter k (l ++ r)
   wide-leaves (AdvanceStamp n) =
-      write-front stamp _ _ (omega arith) (omega arith) (ap (λ (x : ℕ). (x + n) % 2 ^ 32) (f .words stamp (omega arith)))
+      write-front stamp _ _ (omega arith) (omega arith) (ap (λ (x : ℕ). counted x n) (f .words stamp (omega arith)))
   wide-leaves ZeroStamp = write-front stamp 0 0 (omega arith) (omega arith) refl
   wide-leaves ReadStamp = refl
   wide-leaves (WriteResolution x) = write-front resolution x x (omega arith) (omega arith) refl

@@ -1,12 +1,13 @@
 -- What an accepted module-wide call leaves of the module's memory.
 -- Assumes nothing.
-use Prim.Native.Nat.{ℕ, _+_, _%_, _^_, _≤_, _<_, zero-le}
+use Prim.Native.Nat.{ℕ, _≤_, _<_, zero-le}
 use mathlib.Core.Path.{_≡_, refl, ap, _∙_}
 use mathlib.Core.List.{List}
 use native.Mathlib.Omega.{arith}
 use borrow.Author.Tests.{ltb-false}
 use lib.Dec.{ltb}
 use lib.ListN.{getD, set}
+use Rattle.block.specs.Counts.{counted}
 use Rattle.block.specs.Layout.{word, latch}
 use Rattle.block.specs.Ranges.{Usable}
 use Rattle.block.proofs.Sound.{is-within}
@@ -85,7 +86,7 @@ left : (k : WideCall) {m : List ℕ} → Sane m → wideCallRefusal k ≡ 0 → 
 unfolding partLeasts partGreatests
 left (AdvanceStamp n) {m} s e =
     writes s stamp _ (omega arith) (omega arith)
-    (is-within partLeasts partGreatests stamp ((word m stamp + n) % 2 ^ 32) zero-le (omega arith))
+    (is-within partLeasts partGreatests stamp (counted (word m stamp) n) zero-le (omega arith))
 left ZeroStamp s e = writes s stamp 0 (omega arith) (omega arith) refl
 left ReadStamp s e = reads s
 left (WriteResolution v) s e = writes s resolution v (omega arith) (omega arith) (argument resolution 0 3 v refl refl e)

@@ -5,7 +5,7 @@ use mathlib.Core.Path.{_≡_, sym, ap, _∙_, subst}
 use mathlib.Core.List.{List}
 use native.Mathlib.Omega.{arith}
 use Rattle.block.specs.Layout.{word}
-use Rattle.block.specs.Clearing.{counted}
+use Rattle.block.specs.Counts.{counted}
 use Rattle.block.specs.Ranges.{Usable}
 use Rattle.block.proofs.Sound.{each-in}
 use Rattle.channel_laws.specs.Kept.{keptOf, keptReset}

@@ -15,7 +15,7 @@ use Rattle.ring.proofs.Words.{sets-other}
 use Rattle.ring.proofs.Laws.{take-oldest}
 use Rattle.block.specs.Layout.{word, parity, stamps, receiveMode, settings, receiveLevel, receivePosition, receiveSize, receiveAccepted, receiveRead, receiveOverwritten, receiveRing, receiveRingAt, mailboxes, Whole}
 use Rattle.block.specs.Ranges.{leasts, greatests, Usable}
-use Rattle.block.specs.Clearing.{counted}
+use Rattle.block.specs.Counts.{counted}
 use Rattle.status.specs.Status.{parityErrorSignal}
 use Rattle.block.specs.Fifos.{Offsets, receiveOffsets, transmitOffsets, entryAppended, entryOverwriting, Fifo, fifo, accepts, gives, overwrites, changed, overwrittenAfter}
 use Rattle.block.proofs.Words.{words}

@@ -7,7 +7,7 @@ use lib.ListN.{set}
 use Rattle.word.specs.Parity.{errorMark}
 use Rattle.block.specs.Layout.{word, parity, receiveMode, receiveOverwritten}
 use Rattle.block.specs.Modes.{fifoMode}
-use Rattle.block.specs.Clearing.{counted}
+use Rattle.block.specs.Counts.{counted}
 use Rattle.status.specs.Status.{parityErrorSignal}
 use Rattle.block.specs.Fifos.{receiveOffsets, entryAppended, entryOverwriting}
 use Rattle.receive.specs.Arrival.{arrival}

@@ -17,7 +17,7 @@ use Rattle.ring.specs.Ring.{slot, slots, next, words}
 use Rattle.ring.proofs.Laws.{take-oldest}
 use Rattle.block.specs.Layout.{word, settings, transmitter, parity, rate, receiveOverwritten, transmitLevel, transmitPosition, transmitAccepted, transmitSent, transmitMode, transmitRing, state, address, asyncMark, asyncWord, ranged}
 use Rattle.block.specs.Ranges.{leasts, greatests, inRange, Usable}
-use Rattle.block.specs.Clearing.{counted}
+use Rattle.block.specs.Counts.{counted}
 use Rattle.block.specs.Fifos.{receiveOffsets, transmitOffsets, entryTaken, fifo, accepts, gives}
 use Rattle.block.proofs.Sound.{in-range, at-most, usable-set}
 use Rattle.block.proofs.Fifos.{Apart, transmit-proper, store-apart, append-law, take-law}

@@ -1,7 +1,8 @@
 -- A module-wide call: what it answers and what it leaves (paper 01, "Receive", "Channel settings" and "Faults and status").
-use Prim.Native.Nat.{ℕ, _+_, _%_, _^_}
+use Prim.Native.Nat.{ℕ}
 use mathlib.Core.List.{List}
 use lib.ListN.{set}
+use Rattle.block.specs.Counts.{counted}
 use Rattle.block.specs.Layout.{word}
 use Rattle.channel_calls.specs.declared.calls.Answer.{Answer}
 use Rattle.channel_calls.specs.declared.calls.Answer.the-variants.{Done, Value}
@@ -22,7 +23,7 @@ wideAnswer ReadThreshold m = Value (word m threshold)
 
 -- "An advance by any 32-bit number is added and the counter rolls over. It can be zeroed.": the memory with the call's word stored
 abbrev pub wideStored : WideCall → List ℕ → List ℕ
-wideStored (AdvanceStamp n) m = set m stamp ((word m stamp + n) % 2 ^ 32)
+wideStored (AdvanceStamp n) m = set m stamp (counted (word m stamp) n)
 wideStored ZeroStamp m = set m stamp 0
 wideStored ReadStamp m = m
 wideStored (WriteResolution x) m = set m resolution x

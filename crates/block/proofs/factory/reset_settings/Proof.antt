@@ -8,7 +8,7 @@ use lib.Seq.{sets, set-comm}
 use native.Mathlib.Omega.{arith}
 use borrow.Author.Needs.{needs}
 use Rattle.block.specs.Layout.{receiver, parity, matching, receiveSize}
-use Rattle.block.specs.Factory.{nonzeroToFactory, settingsToFactory}
+use Rattle.block.specs.Factory.{factoryNumbers, nonzeroToFactory, settingsToFactory}
 use Rattle.block.proofs.factory.reset_settings.Statement.{statement}
 use Rattle.block.proofs.factory.reset_settings.Tie as tie
 
@@ -20,7 +20,7 @@ set-first (a ∷ vs) l i j v h =
 
 nonzero-last : (b : List ℕ) → nonzeroToFactory (sets (sets b receiver (0 ∷ 0 ∷ [])) matching (0 ∷ 0 ∷ 0 ∷ 0 ∷ 0 ∷ [])) ≡ settingsToFactory b
 nonzero-last b =
-    ap (λ (t : List ℕ). sets t receiveSize (255 ∷ 128 ∷ 32 ∷ 4 ∷ []))
+    ap (λ (t : List ℕ). sets t receiveSize factoryNumbers)
     (set-first (0 ∷ 0 ∷ 0 ∷ 0 ∷ 0 ∷ []) (sets b receiver (0 ∷ 0 ∷ [])) parity matching 1 (omega arith))
 
 returns : tie.Need-returns
