@@ -17,13 +17,23 @@ abbrev μ-loop : tie.MeasureT-loop
 μ-loop mem₀ bytes at₀ mem at = length bytes - at
 
 loop-again : tie.Need-loop-again Inv-loop μ-loop
-loop-again c = (search needs, search needs, omega (arith, c .before .before .before .before .before .loop .inv .2), one-more (c .before .before .before .before .before .loop .at) (c .before .before .before .before .before .before .before .before .args .bytes .now) (c .before .before .before .before .before .before .before .before .args .mem .now) (c .before .before .before .before .before .loop .mem) _ (c .before .before .before .before .before .loop .inv .2) (c .before .before .before .before .before .loop .inv .3) (c .before .before .perform-at .ensures))
+loop-again c =
+    let turn = c .before .before .before .before .before in
+    let start = turn .before .before .before .args in
+    (search needs, search needs, omega (arith, turn .loop .inv .2),
+     one-more (turn .loop .at) (start .bytes .now) (start .mem .now) (turn .loop .mem) _ (turn .loop .inv .2) (turn .loop .inv .3) (c .before .before .perform-at .ensures))
 
 returns : tie.Need-returns Inv-loop μ-loop
-returns c = whole (c .before .before .before .before .loop .at) (c .before .before .before .before .before .before .before .args .bytes .now) (c .before .before .before .before .before .before .before .args .mem .now) (c .before .before .before .before .loop .mem) (c .before .before .before .before .loop .inv .0) (omega arith) (c .before .before .before .before .loop .inv .2) (c .before .before .before .before .loop .inv .3)
+returns c =
+    let end = c .before .before .before .before in
+    let start = end .before .before .before .args in
+    whole (end .loop .at) (start .bytes .now) (start .mem .now) (end .loop .mem) (end .loop .inv .0) (omega arith) (end .loop .inv .2) (end .loop .inv .3)
 
 returns-2 : tie.Need-returns-2 Inv-loop μ-loop
-returns-2 c = whole (c .before .before .loop .at) (c .before .before .before .before .before .args .bytes .now) (c .before .before .before .before .before .args .mem .now) (c .before .before .loop .mem) (c .before .before .loop .inv .0) (omega arith) (c .before .before .loop .inv .2) (c .before .before .loop .inv .3)
+returns-2 c =
+    let end = c .before .before in
+    let start = end .before .before .before .args in
+    whole (end .loop .at) (start .bytes .now) (start .mem .now) (end .loop .mem) (end .loop .inv .0) (omega arith) (end .loop .inv .2) (end .loop .inv .3)
 
 pub perform-all-spec : {M : Type 1} → statement M
 perform-all-spec =

@@ -17,10 +17,20 @@ on-block-requires c κs =
     )
 
 same-length : tie.Need-same-length
-same-length c = let start = c .before .before .before .before .before .before .before .before .before .before .before .before in put-length (start .args .mem .now) (c .before .before .on-block .last .0) (start .args .channel) (c .before .before .before .before .before .before .counter-after .result) (c .before .before .on-block .kept .0)
+same-length c =
+    let done = c .before .before in
+    let counted = done .before .before .before .before in
+    let start = counted .before .before .before .before .before .before .args in
+    put-length (start .mem .now) (done .on-block .last .0) (start .channel) (counted .counter-after .result) (done .on-block .kept .0)
 
 returns : tie.Need-returns
-returns c = let start = c .before .before .before .before .before .before .before .before .before .before .before .before in accepted-is (start .args .mem .now) (start .args .channel) (start .args .call) _ _ _ (start .pre .0 .low) (start .pre .0 .high) (c .before .before .before .before .before .before .counter-after .ensures) (c .before .before .before .before .before .fault .ensures .0) (c .before .before .before .before .fault2 .ensures .0) _ _ (c .before .before .on-block .ensures .0) (c .before .before .on-block .ensures .1)
+returns c =
+    let done = c .before .before in
+    let counted = done .before .before .before .before in
+    let start = counted .before .before .before .before .before .before in
+    accepted-is (start .args .mem .now) (start .args .channel) (start .args .call) _ _ _ (start .pre .0 .low) (start .pre .0 .high)
+    (counted .counter-after .ensures) (done .before .before .before .fault .ensures .0) (done .before .before .fault2 .ensures .0) _ _
+    (done .on-block .ensures .0) (done .on-block .ensures .1)
 
 pub accept-spec : {M : Type 1} → statement M
 accept-spec =
