@@ -19,9 +19,12 @@ abbrev μ-loop : tie.MeasureT-loop
 loop-again : tie.Need-loop-again Inv-loop μ-loop
 loop-again c =
     let turn = c .before .before .before .before .before in
-    let start = turn .before .before .before .args in
-    (search needs, search needs, omega (arith, turn .loop .inv .2),
-     one-more (turn .loop .at) (start .bytes .now) (start .mem .now) (turn .loop .mem) _ (turn .loop .inv .2) (turn .loop .inv .3) (c .before .before .perform-at .ensures))
+    let start = turn .before .before .before .args in (
+      search needs,
+      search needs,
+      omega (arith, turn .loop .inv .2),
+      one-more (turn .loop .at) (start .bytes .now) (start .mem .now) (turn .loop .mem) _ (turn .loop .inv .2) (turn .loop .inv .3) (c .before .before .perform-at .ensures),
+    )
 
 returns : tie.Need-returns Inv-loop μ-loop
 returns c =
