@@ -119,8 +119,10 @@ impl Run {
 /// The argument is how many passes go over all kinds.
 fn main() {
     let passes: usize = std::env::args().nth(1).and_then(|n| n.parse().ok()).unwrap_or(25);
-    let mut runs: Vec<Run> =
-        [1, 12].into_iter().flat_map(|channels| kinds(channels).into_iter().map(move |kind| Run::new(kind, channels))).collect();
+    let mut runs: Vec<Run> = [1, 12]
+        .into_iter()
+        .flat_map(|channels| kinds(channels).into_iter().map(move |kind| Run::new(kind, channels)))
+        .collect();
     for _ in 0..passes {
         for run in &mut runs {
             // A multiple of 16, so that each has been everywhere equally often.
@@ -144,9 +146,14 @@ fn main() {
         );
     }
     let greatest = |over: usize| {
-        let row = runs.iter().max_by(|a, b| a.ratio(over, RUST).total_cmp(&b.ratio(over, RUST))).expect("there are rows");
+        let row =
+            runs.iter().max_by(|a, b| a.ratio(over, RUST).total_cmp(&b.ratio(over, RUST))).expect("there are rows");
         format!("{:.3}, {} on {}", row.ratio(over, RUST), row.kind.name, row.channels)
     };
     println!();
-    println!("The greatest ratio to the Rust program: {}. Of that program to itself: {}.", greatest(PROVED), greatest(RUST_AGAIN));
+    println!(
+        "The greatest ratio to the Rust program: {}. Of that program to itself: {}.",
+        greatest(PROVED),
+        greatest(RUST_AGAIN)
+    );
 }

@@ -183,15 +183,15 @@ impl Ledger {
         for (place, book) in self.channels.iter().enumerate() {
             let ch = &mem[block(place as u32 + 1)..][..BLOCK_WORDS];
             same("settings", &book.settings[..], &ch[..12])?;
-            same("counts", &book.counts()[..], &ch[RX_ACCEPTED..=TX_CLEARED])?;
-            same("receive level", book.receive.held().count(), ch[RX_LEVEL] as usize)?;
-            same("transmit level", book.transmit.held().count(), ch[TX_LEVEL] as usize)?;
+            same("counts", &book.counts()[..], &ch[RECEIVE_ACCEPTED..=TRANSMIT_CLEARED])?;
+            same("receive level", book.receive.held().count(), ch[RECEIVE_LEVEL] as usize)?;
+            same("transmit level", book.transmit.held().count(), ch[TRANSMIT_LEVEL] as usize)?;
             for (k, entry) in book.receive.held().enumerate() {
-                let slot = RX_RING + 3 * ((ch[RX_POSITION] as usize + k) % SLOTS);
+                let slot = RECEIVE_RING + 3 * ((ch[RECEIVE_POSITION] as usize + k) % SLOTS);
                 same("receive FIFO entry", &entry[..], &ch[slot..slot + 3])?;
             }
             for (k, word) in book.transmit.held().enumerate() {
-                same("transmit FIFO word", word, ch[TX_RING + (ch[TX_POSITION] as usize + k) % SLOTS])?;
+                same("transmit FIFO word", word, ch[TRANSMIT_RING + (ch[TRANSMIT_POSITION] as usize + k) % SLOTS])?;
             }
         }
         Ok(())

@@ -10,6 +10,7 @@ pub mod layout;
 pub mod ledger;
 pub mod lists;
 pub mod model;
+pub mod ops;
 #[cfg(feature = "proved")]
 pub mod proved;
 pub mod reading;

@@ -8,6 +8,7 @@
 
 use crate::calls::Item;
 use crate::layout::*;
+use crate::ops::*;
 
 #[derive(Clone, Copy, PartialEq, Eq, Debug)]
 pub enum Event {
@@ -65,6 +66,18 @@ impl Dice {
 
     pub fn one_of(&mut self, values: &[u32]) -> u32 {
         values[self.below(values.len() as u32) as usize]
+    }
+
+    /// One of some ops, each as often as its weight says.
+    fn weighted(&mut self, ops: &[(u32, u32)]) -> u32 {
+        let mut draw = self.below(ops.iter().map(|(_, weight)| weight).sum());
+        for &(op, weight) in ops {
+            if draw < weight {
+                return op;
+            }
+            draw -= weight;
+        }
+        unreachable!("a draw is below the sum of the weights")
     }
 }
 
@@ -184,7 +197,7 @@ pub fn list(seed: u64, calls: usize) -> List {
     let indices = std::array::from_fn(|_| dice.below(1024));
     let mut writer = Writer { dice, count, theme, indices, memory, events: vec![] };
     if !matches!(kind, Memory::Unpowered) {
-        writer.call(1, 0, count, 0);
+        writer.call(POWER_UP, 0, count, 0);
         writer.set_up();
     }
     while writer.events.len() < calls {
@@ -193,7 +206,7 @@ pub fn list(seed: u64, calls: usize) -> List {
             Memory::Short if writer.dice.chance(10) => writer.stored_count_or_power_up(),
             Memory::Lent if writer.dice.chance(6) => writer.lend(),
             Memory::Unpowered if writer.dice.chance(1) => {
-                writer.call(1, 0, count, 0);
+                writer.call(POWER_UP, 0, count, 0);
                 writer.set_up();
             }
             _ => writer.any_call(),
@@ -228,38 +241,38 @@ impl Writer {
     /// An async word that is to wait.
     fn async_word(&mut self, channel: u32) {
         let word = self.data_word();
-        self.loose(134, channel, word);
+        self.loose(ASYNC_WRITE, channel, word);
     }
 
     /// Receivers and transmitters on, all else as it is.
     fn switch_on(&mut self) {
         for channel in 1..=self.count {
-            self.call(32, channel, 1, 0);
-            self.call(33, channel, 1, 0);
+            self.call(WRITE_RECEIVER, channel, 1, 0);
+            self.call(WRITE_TRANSMITTER, channel, 1, 0);
         }
     }
 
     fn set_up(&mut self) {
         for channel in 1..=self.count {
             let off = u32::from(self.dice.chance(8));
-            self.call(32, channel, 1 - off, 0);
+            self.call(WRITE_RECEIVER, channel, 1 - off, 0);
             let off = u32::from(self.dice.chance(8));
-            self.call(33, channel, 1 - off, 0);
+            self.call(WRITE_TRANSMITTER, channel, 1 - off, 0);
             for setting in 2..12 {
                 if self.dice.chance(50) {
                     let value = self.sound_value(setting);
-                    self.call(32 + setting, channel, value, 0);
+                    self.call(SETTING_WRITE + setting, channel, value, 0);
                 }
             }
             if self.theme == Theme::Schedule {
-                self.call(39, channel, 2, 0);
+                self.call(WRITE_TRANSMIT_MODE, channel, 2, 0);
             }
             for _ in 0..self.dice.below(4) {
-                self.call(131, channel, self.indices[0], 1);
+                self.call(MATCH_WRITE, channel, self.indices[0], 1);
                 let index = self.index();
-                self.call(131, channel, index, 1);
+                self.call(MATCH_WRITE, channel, index, 1);
             }
-            for op in [148, 150] {
+            for op in [ENABLE_WRITE, LEVEL_WRITE] {
                 let mask = self.dice.below(128);
                 self.call(op, channel, mask, 0);
             }
@@ -274,15 +287,15 @@ impl Writer {
         let from = if self.dice.chance(65) { 0 } else { 246 };
         for address in from..from + 2 + self.dice.below(8) {
             let command = self.command();
-            self.call(139, channel, address, command);
+            self.call(SCHEDULE_WRITE, channel, address, command);
         }
         for _ in 0..4 {
             let (address, gap) = (self.dice.below(8), self.dice.one_of(&GAPS));
-            self.call(141, channel, address, gap);
+            self.call(MESSAGE_WRITE, channel, address, gap);
         }
         if from > 0 {
             let target = 246 + self.dice.below(11);
-            self.call(139, channel, 0, 0x6000 | target);
+            self.call(SCHEDULE_WRITE, channel, 0, 0x6000 | target);
         }
     }
 
@@ -435,11 +448,11 @@ impl Writer {
             (_, 15..=46) => self.write_setting(channel),
             (_, 47..=54) => {
                 let setting = self.dice.below(12);
-                self.loose(64 + setting, channel, 0);
+                self.loose(SETTING_READ + setting, channel, 0);
             }
             (_, 55..=58) => {
                 let result = self.argument(1);
-                self.loose(145, channel, result);
+                self.loose(INITIATED_TEST, channel, result);
             }
             (0, _) => self.receive(channel),
             (1, _) => self.transmit_fifo(channel),
@@ -470,7 +483,7 @@ impl Writer {
         for _ in 0..2 {
             let setting = self.dice.below(12);
             let value = self.sound_value(setting);
-            self.loose(32 + setting, channel, value);
+            self.loose(SETTING_WRITE + setting, channel, value);
         }
     }
 
@@ -485,7 +498,7 @@ impl Writer {
         let channel = self.dice.word();
         match self.dice.below(44) {
             0 => {
-                self.call(1, channel, self.count, 0);
+                self.call(POWER_UP, channel, self.count, 0);
                 self.set_up();
             }
             1 | 2 => {
@@ -494,25 +507,25 @@ impl Writer {
                 if count == 1 {
                     self.count = 1;
                 }
-                self.call(1, channel, count, 0);
+                self.call(POWER_UP, channel, count, 0);
             }
             3..=7 => self.module_reset(),
             8..=13 => {
                 let ticks = if self.dice.chance(50) { self.dice.word() } else { self.dice.one_of(&EDGES) };
-                self.loose(3, channel, ticks);
+                self.loose(STAMP_ADVANCE, channel, ticks);
             }
-            14 | 15 => self.loose(4, channel, 0),
-            16..=20 => self.loose(5, channel, 0),
+            14 | 15 => self.loose(STAMP_ZERO, channel, 0),
+            16..=20 => self.loose(STAMP_READ, channel, 0),
             21..=25 => {
                 let value = self.dice.one_of(&[0, 1, 2, 3, 4, 0xFFFF_FFFF]);
-                self.loose(6, channel, value);
+                self.loose(RESOLUTION_WRITE, channel, value);
             }
-            26..=29 => self.loose(7, channel, 0),
+            26..=29 => self.loose(RESOLUTION_READ, channel, 0),
             30..=39 => {
                 let value = self.dice.one_of(&[0, 1, 2, 3, 4, 5, 6, 7, 65_534, 65_535, 65_536, 0xFFFF_FFFF]);
-                self.loose(8, channel, value);
+                self.loose(THRESHOLD_WRITE, channel, value);
             }
-            _ => self.loose(9, channel, 0),
+            _ => self.loose(THRESHOLD_READ, channel, 0),
         }
     }
 
@@ -520,11 +533,11 @@ impl Writer {
     fn module_reset(&mut self) {
         if self.dice.chance(50) {
             let channel = 1 + self.dice.below(self.count);
-            self.loose(39, channel, 2);
+            self.loose(WRITE_TRANSMIT_MODE, channel, 2);
             self.async_word(channel);
-            self.loose(135, channel, 0);
+            self.loose(TRIGGER, channel, 0);
         }
-        self.loose(2, 0, 0);
+        self.loose(MODULE_RESET, 0, 0);
         if self.dice.chance(30) {
             self.set_up();
         } else {
@@ -539,11 +552,11 @@ impl Writer {
             2..=10 => self.end_of(RANGES[setting as usize]),
             _ => self.sound_value(setting),
         };
-        self.loose(32 + setting, channel, value);
+        self.loose(SETTING_WRITE + setting, channel, value);
         // A receiver or transmitter that is off makes a dull list: most come on again.
         if setting < 2 && self.dice.chance(80) {
             self.single_call();
-            self.loose(32 + setting, channel, 1);
+            self.loose(SETTING_WRITE + setting, channel, 1);
         }
     }
 
@@ -554,19 +567,19 @@ impl Writer {
         match self.dice.below(4) {
             0 => {
                 for _ in 0..10 {
-                    self.loose(143, channel, 1);
+                    self.loose(SAMPLE, channel, 1);
                 }
             }
             1 => self.arrivals(channel, 12),
             _ => {
                 for time in 0..12 {
                     if time % 4 == 0 {
-                        self.loose(135, channel, 0);
+                        self.loose(TRIGGER, channel, 0);
                     }
                     if time % 4 < 2 {
                         self.transmit_words(channel, 1);
                     }
-                    self.loose(138, channel, 0);
+                    self.loose(STEP, channel, 0);
                 }
             }
         }
@@ -575,14 +588,14 @@ impl Writer {
     fn arrivals(&mut self, channel: u32, times: u32) {
         for _ in 0..times {
             let word = self.data_word();
-            self.loose(128, channel, word);
+            self.loose(ARRIVAL, channel, word);
         }
     }
 
     fn transmit_words(&mut self, channel: u32, times: u32) {
         for _ in 0..times {
             let word = self.data_word();
-            self.loose(133, channel, word);
+            self.loose(FIFO_WRITE, channel, word);
         }
     }
 
@@ -590,34 +603,34 @@ impl Writer {
     fn open_receiver(&mut self, channel: u32) {
         let on = u32::from(self.dice.chance(93));
         let matching = u32::from(self.dice.chance(20));
-        self.loose(32, channel, on);
-        self.loose(35, channel, matching);
+        self.loose(WRITE_RECEIVER, channel, on);
+        self.loose(WRITE_MATCH, channel, matching);
         if matching == 1 {
-            self.call(131, channel, self.indices[0], 1);
+            self.call(MATCH_WRITE, channel, self.indices[0], 1);
         }
     }
 
     /// The receive FIFO at its greatest size, filled, and then arrivals and reads; in some cases it is emptied.
     fn full_receive_fifo(&mut self, channel: u32) {
         for (setting, value) in [(0, 1), (3, 0), (8, 255)] {
-            self.loose(32 + setting, channel, value);
+            self.loose(SETTING_WRITE + setting, channel, value);
         }
         self.mode_and_kind(channel);
         self.arrivals(channel, 255);
         for _ in 0..20 {
             self.arrivals(channel, 3);
-            self.loose(129, channel, 0);
+            self.loose(FIFO_READ, channel, 0);
         }
         if self.dice.chance(25) {
             for _ in 0..255 {
-                self.loose(129, channel, 0);
+                self.loose(FIFO_READ, channel, 0);
             }
         }
     }
 
     /// Either receive mode, and either FIFO kind.
     fn mode_and_kind(&mut self, channel: u32) {
-        for op in [37, 38] {
+        for op in [WRITE_RECEIVE_MODE, WRITE_FIFO_KIND] {
             let value = self.dice.below(2);
             self.loose(op, channel, value);
         }
@@ -628,46 +641,46 @@ impl Writer {
         self.open_receiver(channel);
         self.mode_and_kind(channel);
         let size = 1 + self.dice.below(3);
-        self.loose(40, channel, size);
+        self.loose(WRITE_RECEIVE_SIZE, channel, size);
         for _ in 0..2 {
             self.arrivals(channel, 6);
-            self.loose(129, channel, 0);
+            self.loose(FIFO_READ, channel, 0);
         }
     }
 
     /// The transmit FIFO filled, and then a word sent and two written, again and again; in some cases it is emptied.
     fn full_transmit_fifo(&mut self, channel: u32) {
         let mode = self.dice.below(2);
-        self.loose(33, channel, 1);
-        self.loose(39, channel, mode);
-        self.loose(135, channel, 0);
+        self.loose(WRITE_TRANSMITTER, channel, 1);
+        self.loose(WRITE_TRANSMIT_MODE, channel, mode);
+        self.loose(TRIGGER, channel, 0);
         self.transmit_words(channel, 255);
         for _ in 0..25 {
-            self.loose(138, channel, 0);
+            self.loose(STEP, channel, 0);
             self.transmit_words(channel, 2);
         }
         if self.dice.chance(25) {
             for _ in 0..255 {
-                self.loose(138, channel, 0);
+                self.loose(STEP, channel, 0);
             }
         }
     }
 
     /// Some entries held: sizes at and beside the level, and the receive mode written.
     fn held_entries(&mut self, channel: u32) {
-        self.loose(145, channel, 0);
+        self.loose(INITIATED_TEST, channel, 0);
         for (setting, value) in [(0, 1), (3, 0), (8, 255)] {
-            self.loose(32 + setting, channel, value);
+            self.loose(SETTING_WRITE + setting, channel, value);
         }
         let level = 2 + self.dice.below(3);
         self.arrivals(channel, level);
         for _ in 0..5 {
             let size = (level + 1).saturating_sub(self.dice.below(5));
-            self.loose(40, channel, size);
+            self.loose(WRITE_RECEIVE_SIZE, channel, size);
         }
         for _ in 0..2 {
             let mode = self.dice.below(2);
-            self.loose(37, channel, mode);
+            self.loose(WRITE_RECEIVE_MODE, channel, mode);
             self.arrivals(channel, 1);
         }
     }
@@ -675,34 +688,34 @@ impl Writer {
     /// Mailbox mode: arrivals, each mailbox read at once and again, and one read in FIFO mode.
     fn mailboxes(&mut self, channel: u32) {
         self.open_receiver(channel);
-        self.loose(34, channel, 1);
-        self.loose(37, channel, 1);
+        self.loose(WRITE_PARITY, channel, 1);
+        self.loose(WRITE_RECEIVE_MODE, channel, 1);
         for _ in 0..4 {
             let word = self.data_word();
-            self.loose(128, channel, word);
+            self.loose(ARRIVAL, channel, word);
             for _ in 0..self.dice.below(3) {
-                self.loose(130, channel, word % 1024);
+                self.loose(MAILBOX_READ, channel, word % 1024);
             }
         }
         let word = self.data_word();
-        self.loose(128, channel, word);
-        self.loose(37, channel, 0);
-        self.loose(130, channel, word % 1024);
+        self.loose(ARRIVAL, channel, word);
+        self.loose(WRITE_RECEIVE_MODE, channel, 0);
+        self.loose(MAILBOX_READ, channel, word % 1024);
     }
 
     /// Stamps of arrivals while the counter rolls over.
     fn stamps(&mut self, channel: u32) {
         self.open_receiver(channel);
-        self.loose(36, channel, 1);
+        self.loose(WRITE_STAMPS, channel, 1);
         for _ in 0..3 {
             let ticks = 0x8000_0000 | self.dice.word();
-            self.loose(3, channel, ticks);
-            self.loose(5, channel, 0);
+            self.loose(STAMP_ADVANCE, channel, ticks);
+            self.loose(STAMP_READ, channel, 0);
             self.arrivals(channel, 1);
         }
-        self.loose(129, channel, 0);
+        self.loose(FIFO_READ, channel, 0);
         if self.dice.chance(30) {
-            self.loose(4, channel, 0);
+            self.loose(STAMP_ZERO, channel, 0);
         }
     }
 
@@ -710,13 +723,13 @@ impl Writer {
     fn states(&mut self, channel: u32) {
         let on = u32::from(self.dice.chance(93));
         let mode = self.dice.one_of(&[0, 1, 1, 2]);
-        self.loose(145, channel, 0);
-        self.loose(33, channel, on);
-        self.loose(39, channel, mode);
+        self.loose(INITIATED_TEST, channel, 0);
+        self.loose(WRITE_TRANSMITTER, channel, on);
+        self.loose(WRITE_TRANSMIT_MODE, channel, mode);
         let words = self.dice.below(2);
         self.transmit_words(channel, words);
         for _ in 0..12 {
-            let op = self.dice.one_of(&[135, 135, 135, 135, 136, 136, 137, 138, 138, 138, 138, 138]);
+            let op = self.dice.weighted(&[(TRIGGER, 4), (PAUSE, 2), (STOP, 1), (STEP, 5)]);
             self.loose(op, channel, 0);
         }
     }
@@ -724,10 +737,10 @@ impl Writer {
     /// Scheduled mode, at command 0.
     fn scheduled_from_0(&mut self, channel: u32) {
         if self.dice.chance(40) {
-            self.loose(33, channel, 1);
+            self.loose(WRITE_TRANSMITTER, channel, 1);
         }
-        self.loose(39, channel, 2);
-        self.loose(137, channel, 0);
+        self.loose(WRITE_TRANSMIT_MODE, channel, 2);
+        self.loose(STOP, channel, 0);
     }
 
     /// A short schedule of gaps around 40 and at the ends of their range, with async words written between the steps.
@@ -737,22 +750,22 @@ impl Writer {
             let code = self.dice.one_of(&[1, 2, 2, 2, 2, 3, 3]);
             let command = self.other_bits() | code << 12 | address;
             let word = if code == 1 { self.data_word() } else { self.gap() };
-            self.call(139, channel, address, command);
-            self.call(141, channel, address, word);
+            self.call(SCHEDULE_WRITE, channel, address, command);
+            self.call(MESSAGE_WRITE, channel, address, word);
         }
         let last = self.silent_command();
-        self.call(139, channel, 3, last);
-        self.call(139, channel, 4, 0x6000);
+        self.call(SCHEDULE_WRITE, channel, 3, last);
+        self.call(SCHEDULE_WRITE, channel, 4, 0x6000);
         for step in 0..10 + self.dice.below(4) {
             if self.dice.chance(60) {
                 self.async_word(channel);
             }
             if step % 4 == 0 {
                 let (address, gap) = (self.dice.below(3), self.gap());
-                self.call(141, channel, address, gap);
-                self.loose(135, channel, 0);
+                self.call(MESSAGE_WRITE, channel, address, gap);
+                self.loose(TRIGGER, channel, 0);
             }
-            self.loose(138, channel, 0);
+            self.loose(STEP, channel, 0);
         }
         self.leave_schedule(channel);
     }
@@ -764,29 +777,29 @@ impl Writer {
             match self.dice.below(8) {
                 // Also when it is off.
                 0 | 1 => {
-                    self.loose(33, channel, 0);
+                    self.loose(WRITE_TRANSMITTER, channel, 0);
                     self.async_word(channel);
-                    self.loose(33, channel, 0);
+                    self.loose(WRITE_TRANSMITTER, channel, 0);
                 }
                 2 | 3 => {
                     let mode = self.dice.below(3);
-                    self.loose(39, channel, mode);
+                    self.loose(WRITE_TRANSMIT_MODE, channel, mode);
                 }
-                4 => self.loose(137, channel, 0),
+                4 => self.loose(STOP, channel, 0),
                 _ => {
                     let result = self.dice.below(2);
-                    self.loose(145, channel, result);
+                    self.loose(INITIATED_TEST, channel, result);
                 }
             }
-            self.loose(156, channel, 0);
+            self.loose(ASYNC_READ, channel, 0);
         }
-        self.loose(33, channel, 1);
+        self.loose(WRITE_TRANSMITTER, channel, 1);
     }
 
     /// The schedule's last command, reached by a jump; triggers and steps behind it show where it went.
     fn last_command(&mut self, channel: u32) {
         self.scheduled_from_0(channel);
-        self.call(139, channel, 0, 0x60FF);
+        self.call(SCHEDULE_WRITE, channel, 0, 0x60FF);
         for _ in 0..6 {
             let command = match self.dice.below(11) {
                 0 => 0x1000 | self.dice.below(8),
@@ -797,27 +810,27 @@ impl Writer {
                 4 => 0x6000 | self.dice.one_of(&[0, 0, 1, 255]),
                 _ => self.silent_command(),
             };
-            self.call(139, channel, 255, command);
+            self.call(SCHEDULE_WRITE, channel, 255, command);
             if self.dice.chance(30) {
                 self.async_word(channel);
             }
-            for op in [135, 138, 138] {
+            for op in [TRIGGER, STEP, STEP] {
                 self.loose(op, channel, 0);
             }
         }
-        self.loose(138, channel, 0);
+        self.loose(STEP, channel, 0);
     }
 
     /// Interrupt commands, with the latches cleared between them.
     fn interrupts(&mut self, channel: u32) {
         self.scheduled_from_0(channel);
-        self.call(139, channel, 0, 0x5000);
-        self.call(139, channel, 1, 0x6000);
+        self.call(SCHEDULE_WRITE, channel, 0, 0x5000);
+        self.call(SCHEDULE_WRITE, channel, 1, 0x6000);
         self.level_mask(channel);
-        self.loose(135, channel, 0);
+        self.loose(TRIGGER, channel, 0);
         for _ in 0..4 {
-            self.loose(147, channel, 127);
-            for op in [138, 146, 138] {
+            self.loose(LATCH_CLEAR, channel, 127);
+            for op in [STEP, STATUS_READ, STEP] {
                 self.loose(op, channel, 0);
             }
         }
@@ -827,37 +840,37 @@ impl Writer {
     fn level_mask(&mut self, channel: u32) {
         let some = self.dice.below(128);
         let mask = self.dice.one_of(&[0, 127, some]);
-        self.loose(150, channel, mask);
+        self.loose(LEVEL_WRITE, channel, mask);
     }
 
     /// Conditions 0 to 4 begin and end in small FIFOs, with the latches cleared before and while they hold.
     fn latches(&mut self, channel: u32) {
-        self.loose(145, channel, 0);
+        self.loose(INITIATED_TEST, channel, 0);
         self.open_receiver(channel);
         for (setting, value) in [(1, 1), (2, 1), (7, 0), (8, 2), (9, 1), (10, 0)] {
-            self.loose(32 + setting, channel, value);
+            self.loose(SETTING_WRITE + setting, channel, value);
         }
         self.level_mask(channel);
         for _ in 0..2 {
             self.transmit_words(channel, 2);
-            self.loose(147, channel, 127);
+            self.loose(LATCH_CLEAR, channel, 127);
             // The thresholds let conditions 2 and 0 begin too.
             if self.dice.chance(50) {
-                self.loose(42, channel, 255);
-                self.loose(42, channel, 0);
+                self.loose(WRITE_ALMOST_EMPTY, channel, 255);
+                self.loose(WRITE_ALMOST_EMPTY, channel, 0);
             }
             self.arrivals(channel, 2);
-            for op in [138, 138, 146] {
+            for op in [STEP, STEP, STATUS_READ] {
                 self.loose(op, channel, 0);
             }
             let mask = self.dice.one_of(&[1, 2, 4, 8, 127]);
-            self.loose(147, channel, mask);
-            self.loose(152, channel, 0);
+            self.loose(LATCH_CLEAR, channel, mask);
+            self.loose(PENDING_READ, channel, 0);
             if self.dice.chance(50) {
-                self.loose(41, channel, 255);
-                self.loose(41, channel, 0);
+                self.loose(WRITE_ALMOST_FULL, channel, 255);
+                self.loose(WRITE_ALMOST_FULL, channel, 0);
             }
-            self.loose(145, channel, 0);
+            self.loose(INITIATED_TEST, channel, 0);
         }
     }
 
@@ -865,19 +878,19 @@ impl Writer {
     fn samples(&mut self, channel: u32) {
         self.level_mask(channel);
         let threshold = 1 + self.dice.below(5);
-        self.loose(8, channel, threshold);
-        self.loose(144, channel, 0);
+        self.loose(THRESHOLD_WRITE, channel, threshold);
+        self.loose(TEST_RESET, channel, 0);
         for _ in 0..threshold / 2 {
-            self.loose(143, channel, 1);
+            self.loose(SAMPLE, channel, 1);
         }
         for _ in 0..12 {
             match self.dice.below(10) {
-                0..=3 => self.loose(143, channel, 1),
-                4..=6 => self.loose(143, channel, 0),
-                7 => self.loose(147, channel, 64),
+                0..=3 => self.loose(SAMPLE, channel, 1),
+                4..=6 => self.loose(SAMPLE, channel, 0),
+                7 => self.loose(LATCH_CLEAR, channel, 64),
                 _ => {
                     let threshold = 1 + self.dice.below(5);
-                    self.loose(8, channel, threshold);
+                    self.loose(THRESHOLD_WRITE, channel, threshold);
                 }
             }
         }
@@ -886,17 +899,26 @@ impl Writer {
     // Single calls.
 
     fn receive(&mut self, channel: u32) {
-        let op = self.dice.one_of(&[128, 128, 128, 128, 128, 128, 129, 129, 129, 130, 130, 131, 132, 146, 153, 154]);
+        let op = self.dice.weighted(&[
+            (ARRIVAL, 6),
+            (FIFO_READ, 3),
+            (MAILBOX_READ, 2),
+            (MATCH_WRITE, 1),
+            (MATCH_READ, 1),
+            (STATUS_READ, 1),
+            (COUNTS_READ, 1),
+            (RECEIVE_LEVEL_READ, 1),
+        ]);
         match op {
-            128 => {
+            ARRIVAL => {
                 let word = self.data_word();
                 self.loose(op, channel, word);
             }
-            131 => {
+            MATCH_WRITE => {
                 let (index, mark) = (self.index(), self.argument(1));
                 self.call(op, channel, index, mark);
             }
-            130 | 132 => {
+            MAILBOX_READ | MATCH_READ => {
                 let index = self.index();
                 self.loose(op, channel, index);
             }
@@ -905,11 +927,19 @@ impl Writer {
     }
 
     fn transmit_fifo(&mut self, channel: u32) {
-        let op = self.dice.one_of(&[
-            133, 133, 133, 133, 133, 138, 138, 138, 138, 138, 135, 135, 135, 136, 137, 155, 146, 153, 39, 39,
+        let op = self.dice.weighted(&[
+            (FIFO_WRITE, 5),
+            (STEP, 5),
+            (TRIGGER, 3),
+            (PAUSE, 1),
+            (STOP, 1),
+            (TRANSMIT_LEVEL_READ, 1),
+            (STATUS_READ, 1),
+            (COUNTS_READ, 1),
+            (WRITE_TRANSMIT_MODE, 2),
         ]);
         let a = match op {
-            39 => self.dice.below(2),
+            WRITE_TRANSMIT_MODE => self.dice.below(2),
             _ => self.data_word(),
         };
         self.loose(op, channel, a);
@@ -918,33 +948,43 @@ impl Writer {
     fn scheduled(&mut self, channel: u32) {
         // A short run: scheduled mode, an async word, a trigger and some steps.
         if self.dice.chance(10) {
-            self.loose(39, channel, 2);
+            self.loose(WRITE_TRANSMIT_MODE, channel, 2);
             if self.dice.chance(60) {
                 self.async_word(channel);
             }
             for _ in 0..1 + self.dice.below(3) {
-                self.loose(135, channel, 0);
+                self.loose(TRIGGER, channel, 0);
                 for _ in 0..1 + self.dice.below(4) {
-                    self.loose(138, channel, 0);
+                    self.loose(STEP, channel, 0);
                 }
             }
             return;
         }
-        let op = self.dice.one_of(&[
-            138, 138, 138, 138, 134, 135, 135, 139, 139, 141, 141, 136, 137, 140, 140, 142, 142, 156, 156, 39,
+        let op = self.dice.weighted(&[
+            (STEP, 4),
+            (ASYNC_WRITE, 1),
+            (TRIGGER, 2),
+            (SCHEDULE_WRITE, 2),
+            (MESSAGE_WRITE, 2),
+            (PAUSE, 1),
+            (STOP, 1),
+            (SCHEDULE_READ, 2),
+            (MESSAGE_READ, 2),
+            (ASYNC_READ, 2),
+            (WRITE_TRANSMIT_MODE, 1),
         ]);
         match op {
-            39 => self.loose(op, channel, 2),
-            139 => {
+            WRITE_TRANSMIT_MODE => self.loose(op, channel, 2),
+            SCHEDULE_WRITE => {
                 let (address, command) = (self.address(), self.command());
                 self.call(op, channel, address, command);
             }
-            141 => {
+            MESSAGE_WRITE => {
                 let address = self.address();
                 let word = if self.dice.chance(70) { self.dice.one_of(&GAPS) } else { self.dice.word() };
                 self.call(op, channel, address, word);
             }
-            140 | 142 => {
+            SCHEDULE_READ | MESSAGE_READ => {
                 let address = self.address();
                 self.loose(op, channel, address);
             }
@@ -956,12 +996,24 @@ impl Writer {
     }
 
     fn status(&mut self, channel: u32) {
-        let op = self
-            .dice
-            .one_of(&[143, 143, 143, 143, 144, 146, 146, 147, 147, 148, 149, 150, 151, 152, 152, 128, 133, 138, 129]);
+        let op = self.dice.weighted(&[
+            (SAMPLE, 4),
+            (TEST_RESET, 1),
+            (STATUS_READ, 2),
+            (LATCH_CLEAR, 2),
+            (ENABLE_WRITE, 1),
+            (ENABLE_READ, 1),
+            (LEVEL_WRITE, 1),
+            (LEVEL_READ, 1),
+            (PENDING_READ, 2),
+            (ARRIVAL, 1),
+            (FIFO_WRITE, 1),
+            (STEP, 1),
+            (FIFO_READ, 1),
+        ]);
         let a = match op {
-            143 => self.argument(1),
-            147 | 148 | 150 => self.argument(127),
+            SAMPLE => self.argument(1),
+            LATCH_CLEAR | ENABLE_WRITE | LEVEL_WRITE => self.argument(127),
             _ => self.data_word(),
         };
         self.loose(op, channel, a);
@@ -990,7 +1042,7 @@ impl Writer {
                     _ => least + self.dice.below(greatest - least + 1),
                 };
                 self.overwrite(first + word as usize, value);
-                if word == RX_LEVEL as u32 {
+                if word == RECEIVE_LEVEL as u32 {
                     self.overwrite(first + SIZE, 255);
                 }
             }
@@ -998,7 +1050,7 @@ impl Writer {
             5 | 6 => self.fifos_near_their_ends(channel),
             // Words that may hold anything.
             7 | 8 => {
-                let word = RX_RING + self.dice.below((BLOCK_WORDS - RX_RING) as u32) as usize;
+                let word = RECEIVE_RING + self.dice.below((BLOCK_WORDS - RECEIVE_RING) as u32) as usize;
                 let value = self.dice.word();
                 self.overwrite(first + word, value);
                 // Stored statuses of which the two low bits count.
@@ -1006,17 +1058,17 @@ impl Writer {
                 self.overwrite(first + mailbox, value);
                 for slot in 0..8 {
                     let status = self.dice.word();
-                    self.overwrite(first + RX_RING + 3 * slot, status);
+                    self.overwrite(first + RECEIVE_RING + 3 * slot, status);
                 }
-                self.loose(130, channel, self.indices[0]);
-                self.loose(129, channel, 0);
+                self.loose(MAILBOX_READ, channel, self.indices[0]);
+                self.loose(FIFO_READ, channel, 0);
             }
             // An async word that waits outside scheduled mode.
             9 => {
                 let mode = self.dice.below(2);
                 self.overwrite(first + TRANSMIT_MODE, mode);
                 self.overwrite(first + ASYNC_MARK, 1);
-                for op in [134, 156, 138, 134] {
+                for op in [ASYNC_WRITE, ASYNC_READ, STEP, ASYNC_WRITE] {
                     self.loose(op, channel, 0);
                 }
             }
@@ -1025,9 +1077,9 @@ impl Writer {
                 let size = 1 + self.dice.below(4);
                 let above = self.dice.below(2);
                 self.overwrite(first + SIZE, size);
-                self.overwrite(first + RX_LEVEL, size + above);
+                self.overwrite(first + RECEIVE_LEVEL, size + above);
                 for _ in 0..3 {
-                    let op = self.dice.one_of(&[128, 129, 146, 154, 5]);
+                    let op = self.dice.one_of(&[ARRIVAL, FIFO_READ, STATUS_READ, RECEIVE_LEVEL_READ, STAMP_READ]);
                     self.loose(op, channel, 0);
                 }
                 self.overwrite(first + SIZE, 255);
@@ -1039,7 +1091,7 @@ impl Writer {
                 for _ in 0..3 {
                     self.single_call();
                 }
-                self.call(1, 0, self.count, 0);
+                self.call(POWER_UP, 0, self.count, 0);
                 self.set_up();
             }
         }
@@ -1079,7 +1131,20 @@ impl Writer {
 
     /// A call that its argument or the channel's state may refuse too.
     fn refusable_call(&mut self, channel: u32) {
-        let op = self.dice.one_of(&[40, 129, 129, 130, 133, 134, 134, 135, 139, 143, 145, 147, 3, 8]);
+        let op = self.dice.weighted(&[
+            (WRITE_RECEIVE_SIZE, 1),
+            (FIFO_READ, 2),
+            (MAILBOX_READ, 1),
+            (FIFO_WRITE, 1),
+            (ASYNC_WRITE, 2),
+            (TRIGGER, 1),
+            (SCHEDULE_WRITE, 1),
+            (SAMPLE, 1),
+            (INITIATED_TEST, 1),
+            (LATCH_CLEAR, 1),
+            (STAMP_ADVANCE, 1),
+            (THRESHOLD_WRITE, 1),
+        ]);
         let a = self.dice.one_of(&EDGES);
         self.loose(op, channel, a);
     }
@@ -1092,34 +1157,34 @@ impl Writer {
         self.overwrite(THRESHOLD, threshold);
         for _ in 0..12 {
             let result = u32::from(self.dice.chance(50));
-            self.loose(143, channel, result);
+            self.loose(SAMPLE, channel, result);
         }
     }
 
     /// Fate counts near the roll over and positions near the ring's end, and calls that move them.
     fn fifos_near_their_ends(&mut self, channel: u32) {
         let first = block(channel);
-        for count in RX_ACCEPTED..=TX_CLEARED {
+        for count in RECEIVE_ACCEPTED..=TRANSMIT_CLEARED {
             let value = self.dice.below(2).wrapping_sub(2);
             self.overwrite(first + count, value);
         }
-        for position in [RX_POSITION, TX_POSITION] {
+        for position in [RECEIVE_POSITION, TRANSMIT_POSITION] {
             let value = 254 - self.dice.below(3);
             self.overwrite(first + position, value);
         }
-        self.overwrite(first + RX_LEVEL, 0);
+        self.overwrite(first + RECEIVE_LEVEL, 0);
         self.open_receiver(channel);
         for (setting, value) in [(1, 1), (6, 1), (7, 0), (8, 2)] {
-            self.loose(32 + setting, channel, value);
+            self.loose(SETTING_WRITE + setting, channel, value);
         }
         self.arrivals(channel, 4);
-        self.loose(129, channel, 0);
+        self.loose(FIFO_READ, channel, 0);
         self.transmit_words(channel, 4);
-        for op in [138, 129, 138, 138] {
+        for op in [STEP, FIFO_READ, STEP, STEP] {
             self.loose(op, channel, 0);
         }
         self.arrivals(channel, 2);
-        self.loose(145, channel, 0);
+        self.loose(INITIATED_TEST, channel, 0);
     }
 
     fn stored_count_or_power_up(&mut self) {
@@ -1129,7 +1194,7 @@ impl Writer {
         if self.dice.chance(50) {
             self.overwrite(COUNT, count);
         } else {
-            self.call(1, 0, count, 0);
+            self.call(POWER_UP, 0, count, 0);
             if need(count.min(12)) <= self.memory.len() && (1..=12).contains(&count) {
                 self.count = count;
                 self.set_up();

@@ -13,8 +13,8 @@ fn channel(block: &[u32]) -> Option<Channel> {
     for setting in 0..12 {
         settings.set(setting, block[setting as usize])?;
     }
-    let (rx_level, rx_position) = (block[RX_LEVEL] as usize, block[RX_POSITION] as usize);
-    let (tx_level, tx_position) = (block[TX_LEVEL] as usize, block[TX_POSITION] as usize);
+    let (rx_level, rx_position) = (block[RECEIVE_LEVEL] as usize, block[RECEIVE_POSITION] as usize);
+    let (tx_level, tx_position) = (block[TRANSMIT_LEVEL] as usize, block[TRANSMIT_POSITION] as usize);
     if rx_level > settings.size as usize || tx_level > SLOTS || rx_position >= SLOTS || tx_position >= SLOTS {
         return None;
     }
@@ -34,8 +34,8 @@ fn channel(block: &[u32]) -> Option<Channel> {
     }
     Some(Channel {
         settings,
-        receive: (0..rx_level).map(|k| entry(&block[RX_RING + 3 * ((rx_position + k) % SLOTS)..])).collect(),
-        transmit: (0..tx_level).map(|k| block[TX_RING + (tx_position + k) % SLOTS]).collect(),
+        receive: (0..rx_level).map(|k| entry(&block[RECEIVE_RING + 3 * ((rx_position + k) % SLOTS)..])).collect(),
+        transmit: (0..tx_level).map(|k| block[TRANSMIT_RING + (tx_position + k) % SLOTS]).collect(),
         state,
         command: block[COMMAND],
         waiting,
@@ -43,13 +43,13 @@ fn channel(block: &[u32]) -> Option<Channel> {
         enables: marks_of(block[ENABLE])?,
         levels: marks_of(block[LEVEL_MASK])?,
         counts: Counts {
-            received: block[RX_ACCEPTED],
-            read: block[RX_READ],
-            receive_cleared: block[RX_CLEARED],
-            overwritten: block[RX_OVERWRITTEN],
-            written: block[TX_ACCEPTED],
-            sent: block[TX_SENT],
-            transmit_cleared: block[TX_CLEARED],
+            received: block[RECEIVE_ACCEPTED],
+            read: block[RECEIVE_READ],
+            receive_cleared: block[RECEIVE_CLEARED],
+            overwritten: block[RECEIVE_OVERWRITTEN],
+            written: block[TRANSMIT_ACCEPTED],
+            sent: block[TRANSMIT_SENT],
+            transmit_cleared: block[TRANSMIT_CLEARED],
         },
         mailboxes: block[MAILBOXES..MATCH_SET].chunks(3).map(entry).collect(),
         match_set: block[MATCH_SET..MESSAGE_RAM]

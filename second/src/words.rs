@@ -4,6 +4,7 @@
 //! status rule follows. Words stand where docs/MEMORY.md lays them out.
 
 use crate::layout::*;
+use crate::ops::*;
 
 /// Factory values of the settings, words 0 to 11 of a block.
 const FACTORY: [u32; 12] = [0, 0, 1, 0, 0, 0, 0, 0, 255, 128, 32, 4];
@@ -26,16 +27,24 @@ const FAULT: u32 = 1 << 6;
 /// Values after the number, by op; none for an op that is no call.
 fn values_of(op: u32) -> Option<usize> {
     match op {
-        1..=4 | 6 | 8 => Some(0),
-        5 | 7 | 9 => Some(1),
-        32..=43 => Some(0),
-        64..=75 => Some(1),
-        128 | 132 | 140 | 142 | 146 | 149 | 151 | 152 | 154 | 155 => Some(1),
-        129 | 130 => Some(3),
-        138 => Some(4),
-        153 => Some(7),
-        156 => Some(2),
-        131 | 133..=137 | 139 | 141 | 143..=145 | 147 | 148 | 150 => Some(0),
+        POWER_UP..=STAMP_ZERO | RESOLUTION_WRITE | THRESHOLD_WRITE => Some(0),
+        STAMP_READ | RESOLUTION_READ | THRESHOLD_READ => Some(1),
+        WRITE_RECEIVER..=WRITE_RATE => Some(0),
+        READ_RECEIVER..=READ_RATE => Some(1),
+        ARRIVAL | MATCH_READ | SCHEDULE_READ | MESSAGE_READ | STATUS_READ | ENABLE_READ | LEVEL_READ | PENDING_READ
+        | RECEIVE_LEVEL_READ | TRANSMIT_LEVEL_READ => Some(1),
+        FIFO_READ | MAILBOX_READ => Some(3),
+        STEP => Some(4),
+        COUNTS_READ => Some(7),
+        ASYNC_READ => Some(2),
+        MATCH_WRITE
+        | FIFO_WRITE..=STOP
+        | SCHEDULE_WRITE
+        | MESSAGE_WRITE
+        | SAMPLE..=INITIATED_TEST
+        | LATCH_CLEAR
+        | ENABLE_WRITE
+        | LEVEL_WRITE => Some(0),
         _ => None,
     }
 }
@@ -53,12 +62,12 @@ pub fn perform(mem: &mut [u32], op: u32, channel: u32, a: u32, b: u32) -> Vec<u3
     }
     let mut answer = vec![0];
     match op {
-        1 => power_up(mem, a),
-        2 => module_reset(mem),
-        5 => answer.push(mem[STAMP]),
-        7 => answer.push(mem[RESOLUTION]),
-        9 => answer.push(mem[THRESHOLD]),
-        3 | 4 | 6 | 8 => write_module(mem, op, a),
+        POWER_UP => power_up(mem, a),
+        MODULE_RESET => module_reset(mem),
+        STAMP_READ => answer.push(mem[STAMP]),
+        RESOLUTION_READ => answer.push(mem[RESOLUTION]),
+        THRESHOLD_READ => answer.push(mem[THRESHOLD]),
+        STAMP_ADVANCE | STAMP_ZERO | RESOLUTION_WRITE | THRESHOLD_WRITE => write_module(mem, op, a),
         _ => on_channel(mem, op, channel, a, b, &mut answer),
     }
     answer
@@ -119,21 +128,21 @@ fn part_is_sound(mem: &[u32]) -> bool {
 
 fn block_is_sound(ch: &[u32]) -> bool {
     RANGES.iter().zip(ch).all(|(&(least, greatest), &word)| least <= word && word <= greatest)
-        && ch[RX_LEVEL] <= ch[SIZE]
+        && ch[RECEIVE_LEVEL] <= ch[SIZE]
 }
 
 /// Row 4 for the calls on a channel.
 fn outside_range(op: u32, a: u32, b: u32) -> bool {
     match op {
-        32..=43 => {
+        WRITE_RECEIVER..=WRITE_RATE => {
             let (least, greatest) = RANGES[(op - 32) as usize];
             a < least || a > greatest
         }
-        130 | 132 => a > 1023,
-        131 => a > 1023 || b > 1,
-        139..=142 => a > 255,
-        143 | 145 => a > 1,
-        147 | 148 | 150 => a > 127,
+        MAILBOX_READ | MATCH_READ => a > 1023,
+        MATCH_WRITE => a > 1023 || b > 1,
+        SCHEDULE_WRITE..=MESSAGE_READ => a > 255,
+        SAMPLE | INITIATED_TEST => a > 1,
+        LATCH_CLEAR | ENABLE_WRITE | LEVEL_WRITE => a > 127,
         _ => false,
     }
 }
@@ -141,12 +150,12 @@ fn outside_range(op: u32, a: u32, b: u32) -> bool {
 /// Rows 5 to 7, on a sound block.
 fn refusal_by_setting(ch: &[u32], op: u32, a: u32) -> u32 {
     match op {
-        40 if a < ch[RX_LEVEL] => 5,
-        134 if ch[TRANSMIT_MODE] != SCHEDULED => 5,
-        135 if ch[TRANSMITTER] == 0 => 5,
-        133 if ch[TX_LEVEL] == 255 => 6,
-        134 if ch[ASYNC_MARK] == 1 => 6,
-        129 if ch[RX_LEVEL] == 0 => 7,
+        WRITE_RECEIVE_SIZE if a < ch[RECEIVE_LEVEL] => 5,
+        ASYNC_WRITE if ch[TRANSMIT_MODE] != SCHEDULED => 5,
+        TRIGGER if ch[TRANSMITTER] == 0 => 5,
+        FIFO_WRITE if ch[TRANSMIT_LEVEL] == 255 => 6,
+        ASYNC_WRITE if ch[ASYNC_MARK] == 1 => 6,
+        FIFO_READ if ch[RECEIVE_LEVEL] == 0 => 7,
         _ => 0,
     }
 }
@@ -170,8 +179,8 @@ fn module_reset(mem: &mut [u32]) {
     mem[COUNTERS..COUNTERS + 12].fill(0);
     for c in 1..=mem[COUNT] {
         let ch = &mut mem[block(c)..][..BLOCK_WORDS];
-        clear(ch, RX_LEVEL, RX_CLEARED);
-        clear(ch, TX_LEVEL, TX_CLEARED);
+        clear(ch, RECEIVE_LEVEL, RECEIVE_CLEARED);
+        clear(ch, TRANSMIT_LEVEL, TRANSMIT_CLEARED);
         ch[..12].copy_from_slice(&FACTORY);
         for word in [STATE, COMMAND, ASYNC_MARK, LATCH, ENABLE, LEVEL_MASK] {
             ch[word] = 0;
@@ -184,9 +193,9 @@ fn write_module(mem: &mut [u32], op: u32, a: u32) {
     let count = mem[COUNT];
     let before: Vec<u32> = (1..=count).map(|c| conditions(mem, c)).collect();
     match op {
-        3 => mem[STAMP] = mem[STAMP].wrapping_add(a),
-        4 => mem[STAMP] = 0,
-        6 => mem[RESOLUTION] = a,
+        STAMP_ADVANCE => mem[STAMP] = mem[STAMP].wrapping_add(a),
+        STAMP_ZERO => mem[STAMP] = 0,
+        RESOLUTION_WRITE => mem[RESOLUTION] = a,
         _ => mem[THRESHOLD] = a,
     }
     for c in 1..=count {
@@ -200,16 +209,16 @@ fn write_module(mem: &mut [u32], op: u32, a: u32) {
 fn conditions(mem: &[u32], channel: u32) -> u32 {
     let ch = &mem[block(channel)..];
     let mut mask = 0;
-    if ch[RX_LEVEL] >= ch[ALMOST_FULL] {
+    if ch[RECEIVE_LEVEL] >= ch[ALMOST_FULL] {
         mask |= 1;
     }
-    if ch[RX_LEVEL] == ch[SIZE] {
+    if ch[RECEIVE_LEVEL] == ch[SIZE] {
         mask |= 2;
     }
-    if ch[TX_LEVEL] <= ch[ALMOST_EMPTY] {
+    if ch[TRANSMIT_LEVEL] <= ch[ALMOST_EMPTY] {
         mask |= 4;
     }
-    if ch[TX_LEVEL] == 0 {
+    if ch[TRANSMIT_LEVEL] == 0 {
         mask |= 8;
     }
     if mem[COUNTERS + channel as usize - 1] > mem[THRESHOLD] {
@@ -229,7 +238,7 @@ fn rule(mem: &mut [u32], channel: u32, before: u32, signals: u32) {
 fn on_channel(mem: &mut [u32], op: u32, channel: u32, a: u32, b: u32, answer: &mut Vec<u32>) {
     let before = conditions(mem, channel);
     let signals = match op {
-        143 | 144 => {
+        SAMPLE | TEST_RESET => {
             let counter = &mut mem[COUNTERS + channel as usize - 1];
             // A failing sample adds 2 and stops at 65,536; a good one takes 1 away, not below 0.
             if op == 144 {
@@ -250,8 +259,8 @@ fn on_channel(mem: &mut [u32], op: u32, channel: u32, a: u32, b: u32, answer: &m
     // A status or pending read shows what the rule left.
     let ch = &mem[block(channel)..];
     match op {
-        146 => answer.push(ch[LATCH]),
-        152 => answer.push(u32::from(ch[LATCH] & ch[ENABLE] != 0)),
+        STATUS_READ => answer.push(ch[LATCH]),
+        PENDING_READ => answer.push(u32::from(ch[LATCH] & ch[ENABLE] != 0)),
         _ => {}
     }
 }
@@ -260,60 +269,60 @@ fn on_channel(mem: &mut [u32], op: u32, channel: u32, a: u32, b: u32, answer: &m
 fn on_block(ch: &mut [u32], stamp: u32, op: u32, a: u32, b: u32, answer: &mut Vec<u32>) -> u32 {
     let at = a as usize;
     match op {
-        32..=43 => write_setting(ch, (op - 32) as usize, a),
-        64..=75 => answer.push(ch[(op - 64) as usize]),
-        128 => return arrival(ch, stamp, a, answer),
-        129 => read_fifo(ch, answer),
-        130 => {
+        WRITE_RECEIVER..=WRITE_RATE => write_setting(ch, (op - SETTING_WRITE) as usize, a),
+        READ_RECEIVER..=READ_RATE => answer.push(ch[(op - SETTING_READ) as usize]),
+        ARRIVAL => return arrival(ch, stamp, a, answer),
+        FIFO_READ => read_fifo(ch, answer),
+        MAILBOX_READ => {
             let status = MAILBOXES + 3 * at;
             answer.extend([ch[status] % 4, ch[status + 1], ch[status + 2]]);
             ch[status] %= 2;
         }
-        131 => {
+        MATCH_WRITE => {
             let bit = 1 << (a % 32);
             let word = &mut ch[MATCH_SET + at / 32];
             *word = if b == 1 { *word | bit } else { *word & !bit };
         }
-        132 => answer.push(ch[MATCH_SET + at / 32] >> (a % 32) & 1),
-        133 => {
-            let slot = (ch[TX_POSITION] + ch[TX_LEVEL]) as usize % SLOTS;
-            ch[TX_RING + slot] = a;
-            ch[TX_LEVEL] += 1;
-            add(ch, TX_ACCEPTED, 1);
+        MATCH_READ => answer.push(ch[MATCH_SET + at / 32] >> (a % 32) & 1),
+        FIFO_WRITE => {
+            let slot = (ch[TRANSMIT_POSITION] + ch[TRANSMIT_LEVEL]) as usize % SLOTS;
+            ch[TRANSMIT_RING + slot] = a;
+            ch[TRANSMIT_LEVEL] += 1;
+            add(ch, TRANSMIT_ACCEPTED, 1);
         }
-        134 => {
+        ASYNC_WRITE => {
             ch[ASYNC_MARK] = 1;
             ch[ASYNC_WORD] = a;
         }
-        135 => ch[STATE] = RUNNING,
-        136 => {
+        TRIGGER => ch[STATE] = RUNNING,
+        PAUSE => {
             if ch[STATE] == RUNNING || (ch[STATE] == IDLE && ch[TRANSMIT_MODE] == IMMEDIATE) {
                 ch[STATE] = PAUSED;
             }
         }
-        137 => idle(ch),
-        138 => return step(ch, answer),
-        139 => ch[SCHEDULE_RAM + at] = b,
-        140 => answer.push(ch[SCHEDULE_RAM + at]),
-        141 => ch[MESSAGE_RAM + at] = b,
-        142 => answer.push(ch[MESSAGE_RAM + at]),
-        145 => {
-            clear(ch, RX_LEVEL, RX_CLEARED);
-            clear(ch, TX_LEVEL, TX_CLEARED);
+        STOP => idle(ch),
+        STEP => return step(ch, answer),
+        SCHEDULE_WRITE => ch[SCHEDULE_RAM + at] = b,
+        SCHEDULE_READ => answer.push(ch[SCHEDULE_RAM + at]),
+        MESSAGE_WRITE => ch[MESSAGE_RAM + at] = b,
+        MESSAGE_READ => answer.push(ch[MESSAGE_RAM + at]),
+        INITIATED_TEST => {
+            clear(ch, RECEIVE_LEVEL, RECEIVE_CLEARED);
+            clear(ch, TRANSMIT_LEVEL, TRANSMIT_CLEARED);
             idle(ch);
             if a == 1 {
                 ch[LATCH] |= FAULT;
             }
         }
-        147 => ch[LATCH] &= !a,
-        148 => ch[ENABLE] = a,
-        149 => answer.push(ch[ENABLE]),
-        150 => ch[LEVEL_MASK] = a,
-        151 => answer.push(ch[LEVEL_MASK]),
-        153 => answer.extend_from_slice(&ch[RX_ACCEPTED..=TX_CLEARED]),
-        154 => answer.push(ch[RX_LEVEL]),
-        155 => answer.push(ch[TX_LEVEL]),
-        156 => answer.extend([ch[ASYNC_MARK], ch[ASYNC_MARK] * ch[ASYNC_WORD]]),
+        LATCH_CLEAR => ch[LATCH] &= !a,
+        ENABLE_WRITE => ch[ENABLE] = a,
+        ENABLE_READ => answer.push(ch[ENABLE]),
+        LEVEL_WRITE => ch[LEVEL_MASK] = a,
+        LEVEL_READ => answer.push(ch[LEVEL_MASK]),
+        COUNTS_READ => answer.extend_from_slice(&ch[RECEIVE_ACCEPTED..=TRANSMIT_CLEARED]),
+        RECEIVE_LEVEL_READ => answer.push(ch[RECEIVE_LEVEL]),
+        TRANSMIT_LEVEL_READ => answer.push(ch[TRANSMIT_LEVEL]),
+        ASYNC_READ => answer.extend([ch[ASYNC_MARK], ch[ASYNC_MARK] * ch[ASYNC_WORD]]),
         _ => {}
     }
     0
@@ -339,7 +348,7 @@ fn write_setting(ch: &mut [u32], setting: usize, value: u32) {
     let change = ch[setting] != value;
     ch[setting] = value;
     match setting {
-        RECEIVE_MODE if change => clear(ch, RX_LEVEL, RX_CLEARED),
+        RECEIVE_MODE if change => clear(ch, RECEIVE_LEVEL, RECEIVE_CLEARED),
         TRANSMIT_MODE if change => {
             idle(ch);
             ch[ASYNC_MARK] = 0;
@@ -387,30 +396,30 @@ fn arrival(ch: &mut [u32], stamp: u32, word: u32, answer: &mut Vec<u32>) -> u32 
 
 /// Held at size: bounded drops the arrival, circular overwrites the oldest.
 fn append(ch: &mut [u32], entry: [u32; 3]) -> u32 {
-    let (position, level) = (ch[RX_POSITION] as usize, ch[RX_LEVEL] as usize);
-    let full = ch[RX_LEVEL] == ch[SIZE];
+    let (position, level) = (ch[RECEIVE_POSITION] as usize, ch[RECEIVE_LEVEL] as usize);
+    let full = ch[RECEIVE_LEVEL] == ch[SIZE];
     if full && ch[FIFO_KIND] == 0 {
         return 3;
     }
-    let slot = RX_RING + 3 * ((position + level) % SLOTS);
+    let slot = RECEIVE_RING + 3 * ((position + level) % SLOTS);
     ch[slot..slot + 3].copy_from_slice(&entry);
-    add(ch, RX_ACCEPTED, 1);
+    add(ch, RECEIVE_ACCEPTED, 1);
     if full {
-        ch[RX_POSITION] = next(ch[RX_POSITION]);
-        add(ch, RX_OVERWRITTEN, 1);
+        ch[RECEIVE_POSITION] = next(ch[RECEIVE_POSITION]);
+        add(ch, RECEIVE_OVERWRITTEN, 1);
         4
     } else {
-        ch[RX_LEVEL] += 1;
+        ch[RECEIVE_LEVEL] += 1;
         2
     }
 }
 
 fn read_fifo(ch: &mut [u32], answer: &mut Vec<u32>) {
-    let slot = RX_RING + 3 * ch[RX_POSITION] as usize;
+    let slot = RECEIVE_RING + 3 * ch[RECEIVE_POSITION] as usize;
     answer.extend([ch[slot] % 4, ch[slot + 1], ch[slot + 2]]);
-    ch[RX_POSITION] = next(ch[RX_POSITION]);
-    ch[RX_LEVEL] -= 1;
-    add(ch, RX_READ, 1);
+    ch[RECEIVE_POSITION] = next(ch[RECEIVE_POSITION]);
+    ch[RECEIVE_LEVEL] -= 1;
+    add(ch, RECEIVE_READ, 1);
 }
 
 fn next(position: u32) -> u32 {
@@ -458,11 +467,11 @@ fn step(ch: &mut [u32], answer: &mut Vec<u32>) -> u32 {
     if mode == SCHEDULED {
         return command(ch, answer);
     }
-    if ch[TX_LEVEL] > 0 {
-        let word = ch[TX_RING + ch[TX_POSITION] as usize];
-        ch[TX_POSITION] = next(ch[TX_POSITION]);
-        ch[TX_LEVEL] -= 1;
-        add(ch, TX_SENT, 1);
+    if ch[TRANSMIT_LEVEL] > 0 {
+        let word = ch[TRANSMIT_RING + ch[TRANSMIT_POSITION] as usize];
+        ch[TRANSMIT_POSITION] = next(ch[TRANSMIT_POSITION]);
+        ch[TRANSMIT_LEVEL] -= 1;
+        add(ch, TRANSMIT_SENT, 1);
         answer.extend([1, as_sent(ch, word), ch[RATE], 0]);
     } else {
         if mode == TRIGGERED {

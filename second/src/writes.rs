@@ -52,43 +52,43 @@ fn may_write(before: &[u32], word: usize, item: Item) -> bool {
     }
     match op {
         2 => {
-            offset <= RX_LEVEL
-                || [RX_CLEARED, TX_LEVEL, TX_CLEARED].contains(&offset)
+            offset <= RECEIVE_LEVEL
+                || [RECEIVE_CLEARED, TRANSMIT_LEVEL, TRANSMIT_CLEARED].contains(&offset)
                 || (STATE..=LEVEL_MASK).contains(&offset)
         }
         _ if offset == LATCH => ![5, 7, 9].contains(&op),
         32..=43 => {
             offset == op as usize - 32
-                || (op == 37 && [RX_LEVEL, RX_CLEARED].contains(&offset))
+                || (op == 37 && [RECEIVE_LEVEL, RECEIVE_CLEARED].contains(&offset))
                 || ([33, 39].contains(&op) && [STATE, COMMAND, ASYNC_MARK].contains(&offset))
         }
         128 => {
             let block = &before[block(channel)..];
-            let slot = (block[RX_POSITION] + block[RX_LEVEL]) as usize % SLOTS;
+            let slot = (block[RECEIVE_POSITION] + block[RECEIVE_LEVEL]) as usize % SLOTS;
             let mailbox = MAILBOXES + 3 * (a as usize % 1024);
-            (RX_RING + 3 * slot..RX_RING + 3 * slot + 3).contains(&offset)
-                || [RX_LEVEL, RX_POSITION, RX_ACCEPTED, RX_OVERWRITTEN].contains(&offset)
+            (RECEIVE_RING + 3 * slot..RECEIVE_RING + 3 * slot + 3).contains(&offset)
+                || [RECEIVE_LEVEL, RECEIVE_POSITION, RECEIVE_ACCEPTED, RECEIVE_OVERWRITTEN].contains(&offset)
                 || (block[RECEIVE_MODE] == 1 && (mailbox..mailbox + 3).contains(&offset))
         }
-        129 => [RX_LEVEL, RX_POSITION, RX_READ].contains(&offset),
+        129 => [RECEIVE_LEVEL, RECEIVE_POSITION, RECEIVE_READ].contains(&offset),
         130 => offset == MAILBOXES + 3 * a as usize,
         131 => offset == MATCH_SET + a as usize / 32,
         133 => {
             let block = &before[block(channel)..];
-            let slot = (block[TX_POSITION] + block[TX_LEVEL]) as usize % SLOTS;
-            [TX_RING + slot, TX_LEVEL, TX_ACCEPTED].contains(&offset)
+            let slot = (block[TRANSMIT_POSITION] + block[TRANSMIT_LEVEL]) as usize % SLOTS;
+            [TRANSMIT_RING + slot, TRANSMIT_LEVEL, TRANSMIT_ACCEPTED].contains(&offset)
         }
         134 => [ASYNC_MARK, ASYNC_WORD].contains(&offset),
         135 | 136 => offset == STATE,
         137 => [STATE, COMMAND].contains(&offset),
         138 => match before[block(channel) + TRANSMIT_MODE] {
             2 => [STATE, COMMAND, ASYNC_MARK].contains(&offset),
-            1 => [TX_LEVEL, TX_POSITION, TX_SENT, STATE].contains(&offset),
-            _ => [TX_LEVEL, TX_POSITION, TX_SENT].contains(&offset),
+            1 => [TRANSMIT_LEVEL, TRANSMIT_POSITION, TRANSMIT_SENT, STATE].contains(&offset),
+            _ => [TRANSMIT_LEVEL, TRANSMIT_POSITION, TRANSMIT_SENT].contains(&offset),
         },
         139 => offset == SCHEDULE_RAM + a as usize,
         141 => offset == MESSAGE_RAM + a as usize,
-        145 => [RX_LEVEL, RX_CLEARED, TX_LEVEL, TX_CLEARED, STATE, COMMAND].contains(&offset),
+        145 => [RECEIVE_LEVEL, RECEIVE_CLEARED, TRANSMIT_LEVEL, TRANSMIT_CLEARED, STATE, COMMAND].contains(&offset),
         148 => offset == ENABLE,
         150 => offset == LEVEL_MASK,
         _ => false,

@@ -56,7 +56,7 @@ fn found(slip: fn(&mut [u32], &[u32], u32, u32, u32, &mut Vec<u32>)) {
 fn counts_zeroed_on_module_reset_are_found() {
     found(|mem, _, op, _, _, answer| {
         if op == 2 && answer[0] == 0 {
-            mem[block(1) + RX_ACCEPTED..block(1) + TX_CLEARED + 1].fill(0);
+            mem[block(1) + RECEIVE_ACCEPTED..block(1) + TRANSMIT_CLEARED + 1].fill(0);
         }
     });
 }
@@ -75,7 +75,7 @@ fn a_counter_capped_at_65535_is_found() {
 fn a_word_changed_by_a_refusal_is_found() {
     found(|mem, _, _, _, _, answer| {
         if answer[0] == 7 {
-            mem[block(1) + RX_RING] ^= 1;
+            mem[block(1) + RECEIVE_RING] ^= 1;
         }
     });
 }
@@ -85,7 +85,7 @@ fn an_edge_latch_set_again_is_found() {
     found(|mem, _, op, channel, _, answer| {
         if op == 147 && answer[0] == 0 {
             let ch = &mut mem[block(channel)..];
-            ch[LATCH] |= u32::from(ch[TX_LEVEL] == 0) << 3;
+            ch[LATCH] |= u32::from(ch[TRANSMIT_LEVEL] == 0) << 3;
         }
     });
 }
@@ -113,8 +113,8 @@ fn a_word_beyond_the_need_that_is_touched_is_found() {
 #[test]
 fn a_position_moved_by_a_clear_is_found_between_engines_on_words() {
     let slip = |mem: &mut [u32], before: &[u32], op: u32, channel: u32, _: u32, answer: &mut Vec<u32>| {
-        if op == 145 && answer[0] == 0 && before[block(channel) + RX_LEVEL] > 0 {
-            mem[block(channel) + RX_POSITION] = 0;
+        if op == 145 && answer[0] == 0 && before[block(channel) + RECEIVE_LEVEL] > 0 {
+            mem[block(channel) + RECEIVE_POSITION] = 0;
         }
     };
     let (_, difference) = compare(200_000, 7, &mut OnWords, &mut Slip(slip));
@@ -165,7 +165,7 @@ fn a_made_up_count_and_a_made_up_entry_fall_to_the_history() {
         let answer = words::perform(&mut mem, op, channel, a, b);
         ledger.enter(Item { op, channel, a, b }, &answer).unwrap();
     }
-    mem[block(1) + RX_READ] = 1;
+    mem[block(1) + RECEIVE_READ] = 1;
     assert!(ledger.check_words(&mem).is_err());
     assert!(ledger.clone().enter(item(129, 0), &[0, 0, 2, 0]).is_err(), "not the oldest");
     assert!(ledger.enter(item(129, 0), &[0, 0, 1, 0]).is_ok());

@@ -32,7 +32,7 @@ fn p1_word_0_is_in_error_and_sent_with_parity_is_0x80000000() {
     bench.done(ARRIVAL, 0, 0);
     assert_eq!(bench.done(FIFO_READ, 0, 0), [1, 0, 0]);
     bench.setting(TRANSMITTER, 1);
-    bench.done(TX_WRITE, 0, 0);
+    bench.done(FIFO_WRITE, 0, 0);
     assert_eq!(bench.done(STEP, 0, 0), [1, 0x8000_0000, 4, 0]);
 }
 
@@ -131,7 +131,7 @@ fn level_3_size_2_is_5() {
     for word in 0..3 {
         bench.done(ARRIVAL, word, 0);
     }
-    bench.refused(5, WRITE + SIZE as u32, 1, 2, 0);
+    bench.refused(5, SETTING_WRITE + SIZE as u32, 1, 2, 0);
     bench.setting(SIZE, 3);
 }
 
@@ -221,9 +221,9 @@ fn a_change_of_receive_mode_clears_and_the_same_mode_does_not() {
     let mut bench = receiving();
     bench.done(ARRIVAL, 1, 0);
     bench.setting(RECEIVE_MODE, 0);
-    assert_eq!(bench.done(RX_LEVEL_READ, 0, 0), [1]);
+    assert_eq!(bench.done(RECEIVE_LEVEL_READ, 0, 0), [1]);
     bench.setting(RECEIVE_MODE, 1);
-    assert_eq!(bench.done(RX_LEVEL_READ, 0, 0), [0]);
+    assert_eq!(bench.done(RECEIVE_LEVEL_READ, 0, 0), [0]);
     assert_eq!(bench.counts()[..4], [1, 0, 1, 0]);
 }
 
@@ -231,7 +231,7 @@ fn a_change_of_receive_mode_clears_and_the_same_mode_does_not() {
 fn transmitter_off_and_change_of_mode_drop_the_async_word_and_keep_the_fifo() {
     for (setting, value) in [(TRANSMITTER, 0), (TRANSMIT_MODE, 0)] {
         let mut bench = scheduled(&[0x5000, 0x5000]);
-        bench.done(TX_WRITE, 9, 0);
+        bench.done(FIFO_WRITE, 9, 0);
         bench.done(ASYNC_WRITE, 7, 0);
         bench.done(STEP, 0, 0);
         bench.setting(TRANSMIT_MODE, 2);
@@ -241,7 +241,7 @@ fn transmitter_off_and_change_of_mode_drop_the_async_word_and_keep_the_fifo() {
         assert_eq!(bench.done(ASYNC_READ, 0, 0), [0, 0]);
         assert_eq!(bench.mem[block(1) + STATE..][..3], [0, 0, 0]);
         assert_eq!(bench.mem[block(1) + ASYNC_WORD], 7, "the word stays as it was");
-        assert_eq!(bench.done(TX_LEVEL_READ, 0, 0), [1]);
+        assert_eq!(bench.done(TRANSMIT_LEVEL_READ, 0, 0), [1]);
     }
 }
 
@@ -250,7 +250,7 @@ fn triggered_mode_becomes_idle_when_empty() {
     let mut bench = Bench::new(1);
     bench.setting(TRANSMITTER, 1);
     bench.setting(TRANSMIT_MODE, 1);
-    bench.done(TX_WRITE, 1, 0);
+    bench.done(FIFO_WRITE, 1, 0);
     assert_eq!(bench.done(STEP, 0, 0), [0; 4], "idle");
     bench.done(PAUSE, 0, 0);
     assert_eq!(bench.mem[block(1) + STATE], 0, "an idle transmitter pauses in immediate mode only");
@@ -267,7 +267,7 @@ fn triggered_mode_becomes_idle_when_empty() {
 #[test]
 fn immediate_mode_sends_unless_paused() {
     let mut bench = Bench::new(1);
-    bench.done(TX_WRITE, 1, 0);
+    bench.done(FIFO_WRITE, 1, 0);
     assert_eq!(bench.done(STEP, 0, 0), [0; 4], "transmitter off");
     bench.done(PAUSE, 0, 0);
     bench.setting(TRANSMITTER, 1);
@@ -326,7 +326,7 @@ fn level_latches_hold_and_masks_enable() {
     assert_eq!(bench.done(PENDING_READ, 0, 0), [1]);
     bench.done(LATCH_CLEAR, 127, 0);
     assert_eq!(bench.latch(), 8, "the rule runs after the clear");
-    bench.done(TX_WRITE, 1, 0);
+    bench.done(FIFO_WRITE, 1, 0);
     bench.done(LATCH_CLEAR, 127, 0);
     assert_eq!(bench.latch(), 0);
 }
@@ -351,7 +351,7 @@ fn initiated_test_clears_both_fifos_and_keeps_the_async_word() {
     bench.setting(RECEIVER, 1);
     bench.done(ARRIVAL, 1, 0);
     bench.done(ARRIVAL, 2, 0);
-    bench.done(TX_WRITE, 3, 0);
+    bench.done(FIFO_WRITE, 3, 0);
     bench.done(ASYNC_WRITE, 7, 0);
     bench.done(STEP, 0, 0);
     bench.done(INITIATED_TEST, 0, 0);
@@ -372,7 +372,7 @@ fn module_reset_keeps_what_the_description_keeps() {
     bench.done(MATCH_WRITE, 1023, 1);
     bench.done(MESSAGE_WRITE, 3, 33);
     bench.done(ARRIVAL, 5, 0);
-    bench.done(TX_WRITE, 3, 0);
+    bench.done(FIFO_WRITE, 3, 0);
     bench.done(ASYNC_WRITE, 7, 0);
     bench.done(STEP, 0, 0);
     bench.done(SAMPLE, 1, 0);

@@ -20,7 +20,7 @@ struct Seen {
 /// The module part, the addressed channel's words 0 to 29, and the words that a step, an arrival or a mailbox read would use.
 struct Words {
     part: [u32; MODULE_WORDS],
-    ch: [u32; RX_RING],
+    ch: [u32; RECEIVE_RING],
     command: u32,
     stored: u32,
     mailbox: u32,
@@ -37,7 +37,7 @@ impl Words {
         let command = ch[SCHEDULE_RAM + ch[COMMAND] as usize % 256];
         Some(Words {
             part: mem[..MODULE_WORDS].try_into().unwrap(),
-            ch: ch[..RX_RING].try_into().unwrap(),
+            ch: ch[..RECEIVE_RING].try_into().unwrap(),
             command,
             stored: ch[MESSAGE_RAM + command as usize % 256],
             mailbox: ch[MAILBOXES + 3 * (item.a as usize % 1024)],
@@ -141,10 +141,10 @@ impl Seen {
     /// Conditions 0 to 6 that hold with these words, but for 4 and 5.
     fn conditions(&self, words: &Words) -> u32 {
         let (ch, part) = (&words.ch, &words.part);
-        u32::from(ch[RX_LEVEL] >= ch[ALMOST_FULL])
-            | u32::from(ch[RX_LEVEL] == ch[SIZE]) << 1
-            | u32::from(ch[TX_LEVEL] <= ch[ALMOST_EMPTY]) << 2
-            | u32::from(ch[TX_LEVEL] == 0) << 3
+        u32::from(ch[RECEIVE_LEVEL] >= ch[ALMOST_FULL])
+            | u32::from(ch[RECEIVE_LEVEL] == ch[SIZE]) << 1
+            | u32::from(ch[TRANSMIT_LEVEL] <= ch[ALMOST_EMPTY]) << 2
+            | u32::from(ch[TRANSMIT_LEVEL] == 0) << 3
             | u32::from(part[COUNTERS + self.item.channel as usize - 1] > part[THRESHOLD]) << 6
     }
 
@@ -213,17 +213,19 @@ type Rule = (&'static str, fn(&Seen) -> bool);
 const RULES: &[Rule] = &[
     // Refusals.
     ("a size below the level: 5", |s| s.refused(40, 5)),
-    ("a size at the level", |s| s.done(40) && s.item.a == s.before.ch[RX_LEVEL]),
-    ("size 0 with entries held: 4 before 5", |s| s.refused(40, 4) && s.item.a < s.before.ch[RX_LEVEL]),
+    ("a size at the level", |s| s.done(40) && s.item.a == s.before.ch[RECEIVE_LEVEL]),
+    ("size 0 with entries held: 4 before 5", |s| s.refused(40, 4) && s.item.a < s.before.ch[RECEIVE_LEVEL]),
     ("async outside scheduled mode: 5", |s| s.refused(134, 5)),
     ("trigger with the transmitter off: 5", |s| s.refused(135, 5)),
     ("transmit FIFO full: 6", |s| s.refused(133, 6)),
-    ("the 255th word", |s| s.done(133) && s.is(TX_LEVEL, 254)),
+    ("the 255th word", |s| s.done(133) && s.is(TRANSMIT_LEVEL, 254)),
     ("async while one waits: 6", |s| s.refused(134, 6)),
     ("receive FIFO empty: 7", |s| s.refused(129, 7)),
     // Settings.
-    ("receive mode changed, entries held", |s| s.writes(RECEIVE_MODE) && !s.same(RECEIVE_MODE) && !s.is(RX_LEVEL, 0)),
-    ("receive mode kept, entries held", |s| s.writes(RECEIVE_MODE) && s.same(RECEIVE_MODE) && !s.is(RX_LEVEL, 0)),
+    ("receive mode changed, entries held", |s| {
+        s.writes(RECEIVE_MODE) && !s.same(RECEIVE_MODE) && !s.is(RECEIVE_LEVEL, 0)
+    }),
+    ("receive mode kept, entries held", |s| s.writes(RECEIVE_MODE) && s.same(RECEIVE_MODE) && !s.is(RECEIVE_LEVEL, 0)),
     ("transmit mode changed, async waits", |s| s.writes(TRANSMIT_MODE) && !s.same(TRANSMIT_MODE) && s.waits()),
     ("transmit mode changed, not idle", |s| s.writes(TRANSMIT_MODE) && !s.same(TRANSMIT_MODE) && !s.is(STATE, 0)),
     ("transmit mode kept, async waits", |s| s.writes(TRANSMIT_MODE) && s.same(TRANSMIT_MODE) && s.waits()),
@@ -273,7 +275,7 @@ const RULES: &[Rule] = &[
     ("immediate step that finds the FIFO empty", |s| (s.step(0, 0) || s.step(0, 1)) && s.form(0)),
     ("triggered step that sends", |s| s.step(1, 1) && s.form(1)),
     ("triggered step that finds the FIFO empty", |s| s.step(1, 1) && s.form(0)),
-    ("triggered step when idle, words held", |s| s.step(1, 0) && !s.is(TX_LEVEL, 0)),
+    ("triggered step when idle, words held", |s| s.step(1, 0) && !s.is(TRANSMIT_LEVEL, 0)),
     ("triggered step when paused", |s| s.step(1, 2)),
     ("scheduled step when paused", |s| s.step(2, 2)),
     // The schedule.
@@ -322,8 +324,8 @@ const RULES: &[Rule] = &[
     // Test and reset.
     ("initiated test, async waits", |s| s.done(145) && s.waits()),
     ("initiated test, not idle", |s| s.done(145) && !s.is(STATE, 0)),
-    ("initiated test, entries held", |s| s.done(145) && !s.is(RX_LEVEL, 0)),
-    ("initiated test, words held", |s| s.done(145) && !s.is(TX_LEVEL, 0)),
+    ("initiated test, entries held", |s| s.done(145) && !s.is(RECEIVE_LEVEL, 0)),
+    ("initiated test, words held", |s| s.done(145) && !s.is(TRANSMIT_LEVEL, 0)),
     ("initiated test that latches bit 6", |s| s.done(145) && s.item.a == 1 && s.before.ch[LATCH] < 64),
     ("module reset", |s| s.done(2)),
 ];
@@ -333,7 +335,10 @@ const BY_OTHERS: &[Rule] = &[
     ("async outside scheduled mode while one waits: 5 before 6", |s| s.refused(134, 5) && s.waits()),
     ("an argument beside its range, unsound: 2 before 4", |s| s.beside() && s.number() == 2),
     ("level above size: 2", |s| {
-        s.number() == 2 && s.part_is_sound() && s.before.ch[RX_LEVEL] > s.before.ch[SIZE] && s.before.ch[RX_LEVEL] < 256
+        s.number() == 2
+            && s.part_is_sound()
+            && s.before.ch[RECEIVE_LEVEL] > s.before.ch[SIZE]
+            && s.before.ch[RECEIVE_LEVEL] < 256
     }),
     ("resolution outside its range: 2", |s| s.number() == 2 && s.before.part[RESOLUTION] > 3),
     ("threshold outside its range: 2", |s| s.number() == 2 && s.threshold().wrapping_sub(1) > 65_534),
@@ -344,9 +349,9 @@ const BY_OTHERS: &[Rule] = &[
     ("good sample at 65,536", |s| s.sample(0) && s.counter() == 65_536),
     ("fault with threshold 65,535 begins", |s| s.sample(1) && s.threshold() == 65_535 && s.begins(6)),
     ("a mailbox with a stored status above 3 read", |s| s.done(130) && s.before.mailbox > 3),
-    ("the ring's last slot read", |s| s.done(129) && s.is(RX_POSITION, 254)),
-    ("the ring's last slot overwritten", |s| s.done(128) && s.answer[1] == 4 && s.is(RX_POSITION, 254)),
-    ("the ring's last slot sent", |s| s.form(1) && s.is(TX_POSITION, 254)),
+    ("the ring's last slot read", |s| s.done(129) && s.is(RECEIVE_POSITION, 254)),
+    ("the ring's last slot overwritten", |s| s.done(128) && s.answer[1] == 4 && s.is(RECEIVE_POSITION, 254)),
+    ("the ring's last slot sent", |s| s.form(1) && s.is(TRANSMIT_POSITION, 254)),
 ];
 
 /// A rule for each of some numbers: settings, bits, words.

@@ -79,10 +79,10 @@ fn row_2_unsound_channel() {
         (ALMOST_EMPTY, 256),
         (RATE, 3),
         (RATE, 1_048_576),
-        (RX_LEVEL, 256),
-        (RX_POSITION, 255),
-        (TX_LEVEL, 256),
-        (TX_POSITION, 255),
+        (RECEIVE_LEVEL, 256),
+        (RECEIVE_POSITION, 255),
+        (TRANSMIT_LEVEL, 256),
+        (TRANSMIT_POSITION, 255),
         (STATE, 3),
         (COMMAND, 256),
         (ASYNC_MARK, 2),
@@ -111,9 +111,9 @@ fn row_2_unsound_channel() {
 fn row_2_receive_level_above_size() {
     let mut bench = Bench::new(1);
     bench.overwrite(block(1) + SIZE, 2);
-    bench.overwrite(block(1) + RX_LEVEL, 2);
+    bench.overwrite(block(1) + RECEIVE_LEVEL, 2);
     bench.latch();
-    bench.overwrite(block(1) + RX_LEVEL, 3);
+    bench.overwrite(block(1) + RECEIVE_LEVEL, 3);
     bench.refused(2, STATUS_READ, 1, 0, 0);
 }
 
@@ -124,7 +124,7 @@ fn row_2_contents_may_hold_anything() {
         bench.mem[block(1) + word] = u32::MAX;
     }
     bench.overwrite(STAMP, u32::MAX);
-    bench.overwrite(block(1) + RX_LEVEL, 1);
+    bench.overwrite(block(1) + RECEIVE_LEVEL, 1);
     assert_eq!(bench.done(FIFO_READ, 0, 0), [3, u32::MAX, u32::MAX], "of a stored status the two low bits count");
     assert_eq!(bench.done(MAILBOX_READ, 9, 0), [3, u32::MAX, u32::MAX]);
     assert_eq!(bench.mem[block(1) + MAILBOXES + 27], 1);
@@ -164,7 +164,7 @@ fn row_4_range() {
         (RATE, 4, 1_048_575),
     ];
     for (setting, least, greatest) in ends {
-        let op = WRITE + setting as u32;
+        let op = SETTING_WRITE + setting as u32;
         if least > 0 {
             bench.refused(4, op, 1, least - 1, 0);
         }
@@ -172,7 +172,7 @@ fn row_4_range() {
         bench.refused(4, op, 1, u32::MAX, 0);
         for value in [least, greatest] {
             bench.setting(setting, value);
-            assert_eq!(bench.done(READ + setting as u32, 0, 0), [value]);
+            assert_eq!(bench.done(SETTING_READ + setting as u32, 0, 0), [value]);
         }
     }
     for (op, greatest) in [
@@ -210,7 +210,7 @@ fn row_5_mode() {
     bench.setting(RECEIVER, 1);
     bench.done(ARRIVAL, 1, 0);
     bench.done(ARRIVAL, 1, 0);
-    bench.refused(5, WRITE + SIZE as u32, 1, 1, 0);
+    bench.refused(5, SETTING_WRITE + SIZE as u32, 1, 1, 0);
     bench.setting(SIZE, 2);
 }
 
@@ -218,9 +218,9 @@ fn row_5_mode() {
 fn row_6_full() {
     let mut bench = Bench::new(1);
     for word in 0..255 {
-        bench.done(TX_WRITE, word, 0);
+        bench.done(FIFO_WRITE, word, 0);
     }
-    bench.refused(6, TX_WRITE, 1, 255, 0);
+    bench.refused(6, FIFO_WRITE, 1, 255, 0);
     bench.setting(TRANSMIT_MODE, 2);
     bench.done(ASYNC_WRITE, 1, 0);
     bench.refused(6, ASYNC_WRITE, 1, 1, 0);
@@ -239,9 +239,9 @@ fn row_7_empty() {
 #[test]
 fn the_first_that_applies_is_given() {
     let mut bench = Bench::new(1);
-    bench.refused(3, WRITE + SIZE as u32, 2, 0, 0);
-    bench.overwrite(block(1) + RX_LEVEL, 3);
-    bench.refused(4, WRITE + SIZE as u32, 1, 0, 0);
+    bench.refused(3, SETTING_WRITE + SIZE as u32, 2, 0, 0);
+    bench.overwrite(block(1) + RECEIVE_LEVEL, 3);
+    bench.refused(4, SETTING_WRITE + SIZE as u32, 1, 0, 0);
     bench.overwrite(block(1) + ASYNC_MARK, 1);
     bench.refused(5, ASYNC_WRITE, 1, 0, 0);
 }

@@ -28,7 +28,7 @@ fn mailboxes_are_not_indexed_by_the_octal_label() {
 #[test]
 fn fate_counts_are_not_zeroed_on_module_reset() {
     let mut bench = Bench::new(1);
-    bench.done(TX_WRITE, 1, 0);
+    bench.done(FIFO_WRITE, 1, 0);
     bench.done(MODULE_RESET, 0, 0);
     assert_eq!(bench.counts()[4..], [1, 0, 1]);
 }

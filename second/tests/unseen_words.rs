@@ -4,7 +4,7 @@ mod bench;
 use bench::*;
 use second::layout::*;
 
-const RX: usize = MODULE_WORDS + RX_LEVEL;
+const RX: usize = MODULE_WORDS + RECEIVE_LEVEL;
 
 #[test]
 fn taking_and_overwriting_move_the_position_and_clearing_leaves_it() {
@@ -20,7 +20,7 @@ fn taking_and_overwriting_move_the_position_and_clearing_leaves_it() {
     assert_eq!(bench.mem[RX..RX + 2], [1, 2]);
     bench.done(INITIATED_TEST, 0, 0);
     assert_eq!(bench.mem[RX..RX + 2], [0, 2]);
-    let ring = MODULE_WORDS + RX_RING;
+    let ring = MODULE_WORDS + RECEIVE_RING;
     assert_eq!(bench.mem[ring..ring + 9], [0, 1, 0, 0, 2, 0, 0, 4, 0], "slots stay");
     bench.done(ARRIVAL, 8, 0);
     assert_eq!(bench.mem[ring + 6..ring + 9], [0, 8, 0]);
@@ -38,7 +38,7 @@ fn the_rings_have_255_slots_whatever_the_size() {
     assert_eq!(bench.mem[RX..RX + 2], [1, 254]);
     bench.done(ARRIVAL, 2, 0);
     assert_eq!(bench.mem[RX..RX + 2], [1, 0]);
-    assert_eq!(bench.mem[MODULE_WORDS + RX_RING + 1], 2);
+    assert_eq!(bench.mem[MODULE_WORDS + RECEIVE_RING + 1], 2);
 }
 
 #[test]
@@ -50,7 +50,7 @@ fn a_full_ring_of_255_overwrites_in_place() {
         bench.done(ARRIVAL, word, 0);
     }
     assert_eq!(bench.mem[RX..RX + 2], [255, 1]);
-    assert_eq!(bench.mem[MODULE_WORDS + RX_RING + 1], 255);
+    assert_eq!(bench.mem[MODULE_WORDS + RECEIVE_RING + 1], 255);
     assert_eq!(bench.done(FIFO_READ, 0, 0)[1], 1);
 }
 

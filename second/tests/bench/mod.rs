@@ -6,47 +6,7 @@ use second::layout::*;
 use second::model::Model;
 use second::words;
 
-// Ops of the call items.
-pub const POWER_UP: u32 = 1;
-pub const MODULE_RESET: u32 = 2;
-pub const STAMP_ADVANCE: u32 = 3;
-pub const STAMP_ZERO: u32 = 4;
-pub const STAMP_READ: u32 = 5;
-pub const RESOLUTION_WRITE: u32 = 6;
-pub const RESOLUTION_READ: u32 = 7;
-pub const THRESHOLD_WRITE: u32 = 8;
-pub const THRESHOLD_READ: u32 = 9;
-pub const WRITE: u32 = 32;
-pub const READ: u32 = 64;
-pub const ARRIVAL: u32 = 128;
-pub const FIFO_READ: u32 = 129;
-pub const MAILBOX_READ: u32 = 130;
-pub const MATCH_WRITE: u32 = 131;
-pub const MATCH_READ: u32 = 132;
-pub const TX_WRITE: u32 = 133;
-pub const ASYNC_WRITE: u32 = 134;
-pub const TRIGGER: u32 = 135;
-pub const PAUSE: u32 = 136;
-pub const STOP: u32 = 137;
-pub const STEP: u32 = 138;
-pub const SCHEDULE_WRITE: u32 = 139;
-pub const SCHEDULE_READ: u32 = 140;
-pub const MESSAGE_WRITE: u32 = 141;
-pub const MESSAGE_READ: u32 = 142;
-pub const SAMPLE: u32 = 143;
-pub const TEST_RESET: u32 = 144;
-pub const INITIATED_TEST: u32 = 145;
-pub const STATUS_READ: u32 = 146;
-pub const LATCH_CLEAR: u32 = 147;
-pub const ENABLE_WRITE: u32 = 148;
-pub const ENABLE_READ: u32 = 149;
-pub const LEVEL_WRITE: u32 = 150;
-pub const LEVEL_READ: u32 = 151;
-pub const PENDING_READ: u32 = 152;
-pub const COUNTS_READ: u32 = 153;
-pub const RX_LEVEL_READ: u32 = 154;
-pub const TX_LEVEL_READ: u32 = 155;
-pub const ASYNC_READ: u32 = 156;
+pub use second::ops::*;
 
 pub struct Bench {
     pub model: Model,
@@ -95,7 +55,7 @@ impl Bench {
     }
 
     pub fn setting(&mut self, setting: usize, value: u32) {
-        self.done(WRITE + setting as u32, value, 0);
+        self.done(SETTING_WRITE + setting as u32, value, 0);
     }
 
     pub fn latch(&mut self) -> u32 {
