@@ -29,7 +29,7 @@
  *   - Nobody else reads or writes the lent words during a call: lend a module to one thread at a time.
  *   - Lend a module's memory from its first word on. Between calls it is yours to copy, save and compare. Whatever you put there is never
  *     undefined behaviour: a call that meets a stored number outside its range, in the module part or on its channel (module-wide: on any
- *     channel), is refused with NQABELIHU_UNSOUND; power-up writes every word anew.
+ *     channel), is refused with NQABELIHU_UNSOUND; power-up writes every needed word anew.
  */
 #ifndef NQABELIHU_H
 #define NQABELIHU_H
