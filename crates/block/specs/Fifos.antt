@@ -106,8 +106,8 @@ pub data Change : Type 0 where
   Adds : List ℕ → Change
   -- the oldest is overwritten, and an entry is accepted
   Overwrites : List ℕ → Change
-  -- the oldest is taken out
-  Takes : Change
+  -- the oldest is taken out, and is given out as this entry
+  Takes : List ℕ → Change
   -- every entry is cleared
   Clears : Change
   -- power-up: "counts 0, none held"
@@ -122,7 +122,7 @@ module _ (plus : ℕ → ℕ → ℕ) where
   changed Stays f = f
   changed (Adds e) f = accepts plus f e
   changed (Overwrites e) f = overwrites plus f e
-  changed Takes f = gives plus f
+  changed (Takes e) f = gives plus f
   changed Clears f = clears plus f
   changed Begins f = noEntries
 
@@ -131,6 +131,6 @@ module _ (plus : ℕ → ℕ → ℕ) where
   overwrittenAfter Stays n = n
   overwrittenAfter (Adds e) n = n
   overwrittenAfter (Overwrites e) n = plus n 1
-  overwrittenAfter Takes n = n
+  overwrittenAfter (Takes e) n = n
   overwrittenAfter Clears n = n
   overwrittenAfter Begins n = 0

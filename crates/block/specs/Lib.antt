@@ -8,4 +8,5 @@ pub mod Settings
 pub mod Matching
 pub mod Memories
 pub mod Fifos
+pub mod Kept
 pub mod Refusals

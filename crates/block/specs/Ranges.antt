@@ -17,12 +17,16 @@ leasts =
     ∷ 0 ∷ 0 ∷ 0
     ∷ 0 ∷ 0 ∷ 0 ∷ []
 
+-- "latch, enable and level masks 0 to 127": all seven conditions
+abbrev pub allConditions : ℕ
+allConditions = 127
+
 unfoldable pub greatests : List ℕ
 greatests =
     1 ∷ 1 ∷ 1 ∷ 1 ∷ 1 ∷ 1 ∷ 1 ∷ 2 ∷ 255 ∷ 255 ∷ 255 ∷ greatest
     ∷ 255 ∷ 254 ∷ 255 ∷ 254
     ∷ 2 ∷ 255 ∷ 1
-    ∷ 127 ∷ 127 ∷ 127 ∷ []
+    ∷ allConditions ∷ allConditions ∷ allConditions ∷ []
 
 -- whether x is between the least and the greatest value that two tables have for word i
 abbrev pub within : List ℕ → List ℕ → ℕ → ℕ → Bool

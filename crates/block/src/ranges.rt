@@ -33,6 +33,9 @@ const LEAST: [u32; 22] = [
     0, // level mask
 ];
 
+// The greatest mask: all seven conditions.
+pub const ALL_CONDITIONS: u32 = 127;
+
 const GREATEST: [u32; 22] = [
     1, // receiver
     1, // transmitter
@@ -53,9 +56,9 @@ const GREATEST: [u32; 22] = [
     2, // transmitter state
     255, // command address
     1, // async mark
-    127, // latch mask
-    127, // enable mask
-    127, // level mask
+    ALL_CONDITIONS, // latch mask
+    ALL_CONDITIONS, // enable mask
+    ALL_CONDITIONS, // level mask
 ];
 
 // Whether a number is in the range of the word at an offset.

@@ -5,6 +5,7 @@ use mathlib.Core.Bool.{cond}
 use lib.Dec.{ltb}
 use Rattle.block.specs.Layout.{word, receiveLevel, transmitLevel, transmitMode, transmitter, asyncMark}
 use Rattle.block.specs.Modes.{scheduled}
+use Rattle.block.specs.Ranges.{allConditions}
 use Rattle.block.specs.Refusals.{first}
 use Rattle.block.specs.Settings.{settingRefusal}
 use Rattle.channel_calls.specs.Answers.{settingNumber}
@@ -47,10 +48,10 @@ memoryCallRefusal (ReadMessage a) = above 255 a 4
 -- "latch, enable and level masks 0 to 127"
 abbrev pub statusCallRefusal : StatusCall → ℕ
 statusCallRefusal ReadStatus = 0
-statusCallRefusal (ClearLatch m) = above 127 m 4
-statusCallRefusal (WriteEnable m) = above 127 m 4
+statusCallRefusal (ClearLatch m) = above allConditions m 4
+statusCallRefusal (WriteEnable m) = above allConditions m 4
 statusCallRefusal ReadEnable = 0
-statusCallRefusal (WriteLevelMask m) = above 127 m 4
+statusCallRefusal (WriteLevelMask m) = above allConditions m 4
 statusCallRefusal ReadLevelMask = 0
 statusCallRefusal ReadPending = 0
 

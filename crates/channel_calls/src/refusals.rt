@@ -8,6 +8,7 @@ use crate::calls::StatusCall;
 use crate::calls::TestCall;
 use crate::calls::TransmitCall;
 use block::modes::SCHEDULED;
+use block::ranges::ALL_CONDITIONS;
 ghost use mathlib.Core.Path.{_≡_};
 ghost use Prim.Native.Nat.{_<_};
 ghost use Rattle.block.specs.Layout.{Whole, settings};
@@ -98,10 +99,10 @@ fn status_refusal(call: StatusCall) -> u32
 {
     match call {
         StatusCall::ReadStatus => 0,
-        StatusCall::ClearLatch(mask) => above(127, mask, 4),
-        StatusCall::WriteEnable(mask) => above(127, mask, 4),
+        StatusCall::ClearLatch(mask) => above(ALL_CONDITIONS, mask, 4),
+        StatusCall::WriteEnable(mask) => above(ALL_CONDITIONS, mask, 4),
         StatusCall::ReadEnable => 0,
-        StatusCall::WriteLevelMask(mask) => above(127, mask, 4),
+        StatusCall::WriteLevelMask(mask) => above(ALL_CONDITIONS, mask, 4),
         StatusCall::ReadLevelMask => 0,
         StatusCall::ReadPending => 0,
     }

@@ -17,7 +17,8 @@ use Rattle.status.specs.Tests.{fifosCleared}
 use Rattle.block.specs.Fifos.{receiveOffsets, transmitOffsets, Stays, Clears}
 use Rattle.block.proofs.Words.{words}
 use Rattle.block.proofs.Fifos.{receive-proper, transmit-proper, store-apart, clear-law}
-use Rattle.channel_laws.specs.Kept.{Kept, keptOf, settingChange, keptBy}
+use Rattle.block.specs.Kept.{Kept, keptOf, keptBy, effectOf}
+use Rattle.channel_laws.specs.Effects.{settingChange}
 use Rattle.channel_laws.proofs.Holds.{withSettings, withSetting, parts, kept-setting, store-kept}
 
 -- ---- the transmitter stopped
@@ -35,24 +36,24 @@ cleared-settings : (b : List ℕ) (i j v : ℕ) → settings ≤ i → settings 
 cleared-settings b i j v h l = take-set-le settings (set b i v) j 0 l ∙ take-set-le settings b i v h
 
 module _ (b : List ℕ) (w : Whole b) where
-  receive-clear-kept : keptOf (receiveFifoCleared b) ≡ keptBy counted (take settings b) Clears Stays (keptOf b)
+  receive-clear-kept : keptOf (receiveFifoCleared b) ≡ keptBy counted (effectOf (take settings b) Clears Stays) (keptOf b)
   receive-clear-kept =
       parts (cleared-settings b receiveCleared receiveLevel _ (omega arith) (omega arith)) (clear-law receiveOffsets receive-proper b w)
       (search words)
       (store-apart transmitOffsets (set b receiveCleared _) receiveLevel 0 (omega arith) (omega arith)
       ∙ store-apart transmitOffsets b receiveCleared _ (omega arith) (omega arith))
 
-  transmit-clear-kept : keptOf (transmitFifoCleared b) ≡ keptBy counted (take settings b) Stays Clears (keptOf b)
+  transmit-clear-kept : keptOf (transmitFifoCleared b) ≡ keptBy counted (effectOf (take settings b) Stays Clears) (keptOf b)
   transmit-clear-kept =
       parts (cleared-settings b transmitCleared transmitLevel _ (omega arith) (omega arith))
       (store-apart receiveOffsets (set b transmitCleared _) transmitLevel 0 (omega arith) (omega arith)
       ∙ store-apart receiveOffsets b transmitCleared _ (omega arith) (omega arith))
       (search words) (clear-law transmitOffsets transmit-proper b w)
 
-pub both-clear-kept : (b : List ℕ) → Whole b → keptOf (fifosCleared b) ≡ keptBy counted (take settings b) Clears Clears (keptOf b)
+pub both-clear-kept : (b : List ℕ) → Whole b → keptOf (fifosCleared b) ≡ keptBy counted (effectOf (take settings b) Clears Clears) (keptOf b)
 both-clear-kept b w =
     transmit-clear-kept (receiveFifoCleared b) (search words)
-    ∙ ap (λ (h : Kept). keptBy counted (h .settings) Stays Clears h) (receive-clear-kept b w)
+    ∙ ap (λ (h : Kept). keptBy counted (effectOf (h .settings) Stays Clears) h) (receive-clear-kept b w)
 
 -- ---- a setting written
 
@@ -79,12 +80,12 @@ settings-kept b s (v ∷ e) h =
 
 module _ (b : List ℕ) (v : ℕ) where
   receive-mode-kept : Whole b → keptOf (receiveModeWritten v b)
-      ≡ keptBy counted (set (take settings b) receiveMode v) (cond (eqb (word (take settings b) receiveMode) v) Stays Clears) Stays (keptOf b)
+      ≡ keptBy counted (effectOf (set (take settings b) receiveMode v) (cond (eqb (word (take settings b) receiveMode) v) Stays Clears) Stays) (keptOf b)
   receive-mode-kept w = rw (kept-setting b receiveMode (omega arith)) (go (eqb (word b receiveMode) v) refl)
     where
       go : (t : Bool) → eqb (word b receiveMode) v ≡ t
           → keptOf (cond t b (set (receiveFifoCleared b) receiveMode v))
-          ≡ keptBy counted (set (take settings b) receiveMode v) (cond t Stays Clears) Stays (keptOf b)
+          ≡ keptBy counted (effectOf (set (take settings b) receiveMode v) (cond t Stays Clears) Stays) (keptOf b)
       go true e = already b receiveMode v (omega arith) (eqb-true (word b receiveMode) v e)
       go false e =
           setting-kept (receiveFifoCleared b) receiveMode v (omega arith) ∙ ap (λ (h : Kept). withSetting h receiveMode v) (receive-clear-kept b w)
@@ -107,13 +108,13 @@ module _ (b : List ℕ) (v : ℕ) where
       go false = setting-kept b transmitter v (omega arith)
 
   pub write-kept : Whole b → (s : ℕ) → s < settings
-      → keptOf (written s v b) ≡ keptBy counted (set (take settings b) s v) (settingChange s v (take settings b)) Stays (keptOf b)
+      → keptOf (written s v b) ≡ keptBy counted (effectOf (set (take settings b) s v) (settingChange s v (take settings b)) Stays) (keptOf b)
   unfolding written
   write-kept w s h = go (eqb s receiveMode) (eqb s transmitMode) (eqb s transmitter) refl refl refl
     where
       go : (p q r : Bool) → eqb s receiveMode ≡ p → eqb s transmitMode ≡ q → eqb s transmitter ≡ r
           → keptOf (cond p (receiveModeWritten v b) (cond q (transmitModeWritten v b) (cond r (transmitterWritten v b) (set b s v))))
-          ≡ keptBy counted (set (take settings b) s v) (cond p (cond (eqb (word (take settings b) receiveMode) v) Stays Clears) Stays) Stays (keptOf b)
+          ≡ keptBy counted (effectOf (set (take settings b) s v) (cond p (cond (eqb (word (take settings b) receiveMode) v) Stays Clears) Stays) Stays) (keptOf b)
       go true q r x y z = rw (eqb-true s receiveMode x) (receive-mode-kept w)
       go false true r x y z = rw (eqb-true s transmitMode y) transmit-mode-kept
       go false false true x y z = rw (eqb-true s transmitter z) transmitter-kept

@@ -14,7 +14,7 @@ use Rattle.block.specs.Ranges.{inRange, Usable}
 use Rattle.block.specs.Fifos.{receiveOffsets, transmitOffsets, Fifo}
 use Rattle.block.proofs.Sound.{usable-set}
 use Rattle.block.proofs.Fifos.{Apart, store-apart}
-use Rattle.channel_laws.specs.Kept.{Kept, keptOf}
+use Rattle.block.specs.Kept.{Kept, keptOf}
 
 -- the block c is usable, and h is what is kept of it
 pub record Holds (c : List ℕ) (h : Kept) : Type 0 where

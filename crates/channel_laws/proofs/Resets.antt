@@ -19,7 +19,8 @@ use Rattle.block.proofs.Words.{words}
 use Rattle.block.proofs.Sound.{usable-words}
 use Rattle.block.proofs.Keeps.{factory-parts}
 use Rattle.status.proofs.Keeps.{reset-keeps}
-use Rattle.channel_laws.specs.Kept.{Kept, keptOf, keptReset, keptFirst}
+use Rattle.block.specs.Kept.{Kept, keptOf, keptFirst, keptBy}
+use Rattle.channel_laws.specs.Effects.{resetEffect}
 use Rattle.channel_laws.proofs.Holds.{Holds, withSettings, parts, store-kept}
 use Rattle.channel_laws.proofs.Changes.{forget-kept, both-clear-kept, settings-kept}
 
@@ -30,7 +31,7 @@ factory-kept b w =
     settings-kept b 0 factorySettings (omega arith)
     ∙ ap (λ (l : List ℕ). withSettings (keptOf b) (take settings l)) (factory-parts b (omega (arith, w)))
 
-pub reset-left : {b : List ℕ} → Usable b → Holds (blockReset b) (keptReset counted (keptOf b))
+pub reset-left : {b : List ℕ} → Usable b → Holds (blockReset b) (keptBy counted resetEffect (keptOf b))
 unfolding blockReset
 reset-left {b} u =
     record {

@@ -1,10 +1,9 @@
 -- An accepted call's answer is no refusal.
 -- Assumes nothing.
 use Prim.Native.Nat.{ℕ}
-use mathlib.Core.Path.{_≡_, refl, ap}
-use mathlib.Core.Bool.{Bool, true, false, cond}
+use mathlib.Core.Path.{_≡_, refl}
+use mathlib.Core.Bool.{false}
 use mathlib.Core.List.{List}
-use native.Mathlib.Omega.{arith}
 use Rattle.channel.specs.Channel.{didAnswer, answerShown}
 use Rattle.channel_calls.specs.declared.calls.SettingCall.the-variants.{WriteSetting, ReadSetting}
 use Rattle.channel_calls.specs.declared.calls.MemoryCall.the-variants.{WriteMatch, ReadMatch, WriteSchedule, ReadSchedule, WriteMessage, ReadMessage}
@@ -18,10 +17,6 @@ use Rattle.wide.specs.OnModule.{wideAnswer}
 use Rattle.wide.specs.declared.calls.WideCall.{WideCall}
 use Rattle.wide.specs.declared.calls.WideCall.the-variants.{AdvanceStamp, ZeroStamp, ReadStamp, WriteResolution, ReadResolution, WriteThreshold, ReadThreshold}
 use Rattle.fates.specs.History.{isRefused}
-
--- a refusal is no accepted answer
-pub no : {A : Type 0} → true ≡ false → A
-no e = let z : _≡_ {A = ℕ} 1 0 = ap (λ (b : Bool). cond b 1 0) e in absurd (omega arith)
 
 -- the answer on block b, shown by the block c that is left
 pub block-accepted : (k : ChannelCall) (c b : List ℕ) → isRefused (answerShown k c (didAnswer k b)) ≡ false

@@ -1,173 +1,173 @@
--- What a change of a FIFO makes of its ledger.
+-- Where every change fits what is held, the ledger of a FIFO accounts for every entry.
 -- Assumes nothing.
-use Prim.Native.Nat.{ℕ, zero, suc, _+_, _≤_, _<_}
+use Prim.Native.Nat.{ℕ, zero, suc, _+_, _<_}
 use mathlib.Core.Path.{_≡_, refl, sym, ap, _∙_}
 use mathlib.Core.Bool.{Bool, true, false, cond}
 use mathlib.Core.List.{List, [], _∷_, _++_, map, append-assoc}
 use native.Mathlib.Omega.{arith}
-use lib.ListN.{length, getD, drop, replicate, length-append, length-drop, length-replicate}
-use lib.Seq.{drop-length, drop-append-le, drop-drop}
+use lib.ListN.{length, getD, take, drop, length-append, take-append-drop}
 use Rattle.block.specs.Fifos.{Fifo, Change, Stays, Adds, Overwrites, Takes, Clears, Begins, changed, overwrittenAfter}
-use Rattle.fates.specs.Ledger.{Fate, TakenOut, Cleared, Overwritten, Accepted, Fated, Ledger, remaining, entered, fateGiven, ledgerAfter, is, number, withFate, entries}
-use Rattle.fates.specs.Accounts.{Accounts, OldestHeld}
+use Rattle.fates.specs.Ledger.{Side, Receiving, Transmitting, aside, Fate, TakenOut, Cleared, Overwritten, Accepted, Departed, Ledger, enters, depart, ledgerAfter, acceptedAfter, Fits, numbered, entries, byFate, number}
+use Rattle.fates.specs.Theorem.{Every, AsAccepted, Accounts}
 
 -- ---- lists
 
 pub map-append : {A B : Type 0} (f : A → B) (s t : List A) → map f (s ++ t) ≡ map f s ++ map f t
 map-append f [] t = refl
-map-append f (x ∷ s) t = ap (λ (l : List _). f x ∷ l) (map-append f s t)
+map-append f (x ∷ s) t = ap (λ (u : List _). f x ∷ u) (map-append f s t)
 
 map-drop : {A B : Type 0} (f : A → B) (n : ℕ) (s : List A) → map f (drop n s) ≡ drop n (map f s)
 map-drop f zero s = refl
 map-drop f (suc n) [] = refl
 map-drop f (suc n) (x ∷ s) = map-drop f n s
 
-map-length : {A B : Type 0} (f : A → B) (s : List A) → length (map f s) ≡ length s
+pub map-length : {A B : Type 0} (f : A → B) (s : List A) → length (map f s) ≡ length s
 map-length f [] = refl
 map-length f (x ∷ s) = ap suc (map-length f s)
 
--- ---- numbers of fates
+drop-all : {A : Type 0} (s : List A) → drop (length s) s ≡ []
+drop-all [] = refl
+drop-all (x ∷ s) = drop-all s
 
-number-append : (f : Fate) (s t : List Fated) → number f (s ++ t) ≡ number f s + number f t
-number-append f [] t = omega arith
-number-append f (g ∷ s) t = omega (arith, number-append f s t)
+take-all : {A : Type 0} (s : List A) → length (take (length s) s) ≡ length s
+take-all [] = refl
+take-all (x ∷ s) = ap suc (take-all s)
 
--- n times the same fate
-number-same : (f : Fate) (g : Fated) (n : ℕ) (t : Bool) → is f (g .fate) ≡ t → number f (replicate n g) ≡ cond t n 0
-number-same f g zero true e = refl
-number-same f g zero false e = refl
-number-same f g (suc n) true e = rw e (omega (arith, number-same f g n true e))
-number-same f g (suc n) false e = rw e (omega (arith, number-same f g n false e))
+take-one : {A : Type 0} (s : List A) → 0 < length s → length (take 1 s) ≡ 1
+take-one [] h = absurd (omega arith)
+take-one (x ∷ s) h = refl
 
-number-given : (f : Fate) (s : List Fated) (g : Fated) (n : ℕ) → number f (s ++ replicate n g) ≡ number f s + cond (is f (g .fate)) n 0
-number-given f s g n = number-append f s (replicate n g) ∙ ap (λ (x : ℕ). number f s + x) (number-same f g n (is f (g .fate)) refl)
+pub every-append : {A : Type 0} (P : A → Type 0) (s t : List A) → Every P s → Every P t → Every P (s ++ t)
+every-append P [] t p q = q
+every-append P (x ∷ s) t p q = (p .0, every-append P s t (p .1) q)
 
--- every fate is one of the three
-one-of-three : (f : Fate) → cond (is TakenOut f) 1 0 + cond (is Cleared f) 1 0 + cond (is Overwritten f) 1 0 ≡ 1
-one-of-three TakenOut = refl
-one-of-three Cleared = refl
-one-of-three Overwritten = refl
+-- ---- the entries in number order
 
-pub number-all : (s : List Fated) → length s ≡ number TakenOut s + number Cleared s + number Overwritten s
-number-all [] = refl
-number-all (g ∷ s) = omega (arith, number-all s, one-of-three (g .fate))
+module _ (at : ℕ) where
+  -- an entry with a fate that the call at this place gives
+  abbrev pub fated : Fate → Accepted → Departed
+  fated w x = record { accepted = x; fate = w; place = at }
 
--- ---- the accounts
+  unfated : (w : Fate) (s : List Accepted) → map (λ (d : Departed). d .accepted) (map (fated w) s) ≡ s
+  unfated w [] = refl
+  unfated w (x ∷ s) = ap (λ (t : List Accepted). x ∷ t) (unfated w s)
 
-module _ {l : Ledger} {f : Fifo} {o : ℕ} (a : Accounts l f o) where
-  pub remaining-held : length (remaining l) ≡ length (f .held)
-  remaining-held = sym (map-length _ (remaining l)) ∙ ap (length {A = List ℕ}) (a .held)
+  -- a fate leaves the entry its number
+  depart-numbered : (l : Ledger) (n : ℕ) (w : Fate) → numbered (depart at l n w) ≡ numbered l
+  depart-numbered l n w =
+      let back : List Departed → List Accepted = map (λ (d : Departed). d .accepted) in
+      ap (λ (s : List Accepted). s ++ drop n (l .held)) (map-append (λ (d : Departed). d .accepted) (l .departed) (map (fated w) (take n (l .held))) ∙ ap (λ (s : List Accepted). back (l .departed) ++ s) (unfated w (take n (l .held))))
+      ∙ append-assoc (back (l .departed)) (take n (l .held)) (drop n (l .held))
+      ∙ ap (λ (s : List Accepted). back (l .departed) ++ s) (take-append-drop n (l .held))
 
-  -- an entry is accepted
-  entered-accounts : (at : ℕ) (e : List ℕ) → Accounts (entered l at e) (changed _+_ (Adds e) f) o
-  entered-accounts at e =
+  enters-numbered : (l : Ledger) (e : List ℕ) → numbered (enters at l e) ≡ numbered l ++ (record { entry = e; place = at } ∷ [])
+  enters-numbered l e = sym (append-assoc (map (λ (d : Departed). d .accepted) (l .departed)) (l .held) (record { entry = e; place = at } ∷ []))
+
+  pub numbered-after : (c : Change) (l : Ledger) → numbered (ledgerAfter at c l) ≡ acceptedAfter at c (numbered l)
+  numbered-after Stays l = refl
+  numbered-after (Adds e) l = enters-numbered l e
+  numbered-after (Overwrites e) l =
+      enters-numbered (depart at l 1 Overwritten) e
+      ∙ ap (λ (s : List Accepted). s ++ (record { entry = e; place = at } ∷ [])) (depart-numbered l 1 Overwritten)
+  numbered-after (Takes e) l = depart-numbered l 1 (TakenOut e)
+  numbered-after Clears l = depart-numbered l (length (l .held)) Cleared
+  numbered-after Begins l = refl
+
+-- ---- how many have a fate
+
+number-append : (is : Fate → Bool) (s t : List Departed) → number is (s ++ t) ≡ number is s + number is t
+number-append is [] t = omega arith
+number-append is (d ∷ s) t =
+    let h = number-append is s t in
+    let one : ℕ = cond (is (d .fate)) 1 0 in
+    let e : one + (number is s + number is t) ≡ one + number is s + number is t = omega arith in
+    ap (λ (n : ℕ). one + n) h ∙ e
+
+number-given : (is : Fate → Bool) (at : ℕ) (w : Fate) (s : List Accepted) (t : Bool) → is w ≡ t → number is (map (fated at w) s) ≡ cond t (length s) 0
+number-given is at w [] true e = refl
+number-given is at w [] false e = refl
+number-given is at w (x ∷ s) true e = rw e (omega (arith, number-given is at w s true e))
+number-given is at w (x ∷ s) false e = rw e (omega (arith, number-given is at w s false e))
+
+-- ---- one call
+
+module _ {l : Ledger} {f : Fifo} {o : ℕ} (a : Accounts l f o) (at : ℕ) where
+  as-many : length (l .held) ≡ length (f .held)
+  as-many = sym (map-length (λ (x : Accepted). x .entry) (l .held)) ∙ ap length (a .held)
+
+  -- k of those held get a fate, and f′ and o′ are what becomes of the FIFO
+  departs : (w : Fate) (n k : ℕ) (f′ : Fifo) (o′ : ℕ) → length (take n (l .held)) ≡ k → drop n (f .held) ≡ f′ .held → f .accepted ≡ f′ .accepted
+      → f .taken + cond (byFate true false false w) k 0 ≡ f′ .taken → f .cleared + cond (byFate false true false w) k 0 ≡ f′ .cleared → o + cond (byFate false false true w) k 0 ≡ o′
+      → Accounts (depart at l n w) f′ o′
+  departs w n k f′ o′ many h x t c r =
+      record {
+        held = map-drop (λ (y : Accepted). y .entry) n (l .held) ∙ ap (drop n) (a .held) ∙ h;
+        accepted = ap length (depart-numbered at l n w) ∙ a .accepted ∙ x;
+        taken = counts (byFate true false false) (f .taken) (a .taken) ∙ t;
+        cleared = counts (byFate false true false) (f .cleared) (a .cleared) ∙ c;
+        overwritten = counts (byFate false false true) o (a .overwritten) ∙ r;
+      }
+    where
+      counts : (is : Fate → Bool) (before : ℕ) → number is (l .departed) ≡ before
+          → number is (l .departed ++ map (fated at w) (take n (l .held))) ≡ before + cond (is w) k 0
+      counts is before e =
+          number-append is (l .departed) (map (fated at w) (take n (l .held)))
+          ∙ ap (λ (b : ℕ). b + number is (map (fated at w) (take n (l .held)))) e
+          ∙ ap (λ (b : ℕ). before + b) (number-given is at w (take n (l .held)) (is w) refl ∙ ap (λ (j : ℕ). cond (is w) j 0) many)
+
+  entered-accounts : (e : List ℕ) → Accounts (enters at l e) (changed _+_ (Adds e) f) o
+  entered-accounts e =
       let x : Accepted = record { entry = e; place = at } in
       record {
-        within = omega (arith, a .within, length-append (l .accepted) (x ∷ []));
-        held =
-            ap entries (drop-append-le (length (l .fates)) (l .accepted) (x ∷ []) (a .within)) ∙ map-append _ (remaining l) (x ∷ [])
-            ∙ ap (λ (s : List (List ℕ)). s ++ e ∷ []) (a .held);
-        accepted = omega (arith, a .accepted, length-append (l .accepted) (x ∷ []));
+        held = map-append (λ (y : Accepted). y .entry) (l .held) (x ∷ []) ∙ ap (λ (s : List (List ℕ)). s ++ e ∷ []) (a .held);
+        accepted = ap length (enters-numbered at l e) ∙ length-append (numbered l) (x ∷ []) ∙ ap (λ (n : ℕ). n + 1) (a .accepted);
         taken = a .taken;
         cleared = a .cleared;
         overwritten = a .overwritten;
       }
 
-  -- the n oldest get a fate: f′ and o′ are what the history keeps then
-  given-accounts : (at : ℕ) (w : Fate) (n : ℕ) (f′ : Fifo) (o′ : ℕ) → n ≤ length (remaining l) → drop n (f .held) ≡ f′ .held → f .accepted ≡ f′ .accepted
-      → f .taken + cond (is TakenOut w) n 0 ≡ f′ .taken → f .cleared + cond (is Cleared w) n 0 ≡ f′ .cleared → o + cond (is Overwritten w) n 0 ≡ o′
-      → Accounts (fateGiven l at w n) f′ o′
-  given-accounts at w n f′ o′ h p q t c r =
-      let g : Fated = record { fate = w; place = at } in
-      let long : length (l .fates ++ replicate n g) ≡ length (l .fates) + n = length-append (l .fates) (replicate n g) ∙ ap (λ (x : ℕ). length (l .fates) + x) (length-replicate n g) in
-      record {
-        within = omega (arith, long, h, a .within, length-drop (length (l .fates)) (l .accepted));
-        held =
-            ap (λ (x : ℕ). entries (drop x (l .accepted))) long ∙ ap entries (sym (drop-drop n (length (l .fates)) (l .accepted)))
-            ∙ map-drop _ n (remaining l) ∙ ap (drop n) (a .held) ∙ p;
-        accepted = a .accepted ∙ q;
-        taken = number-given TakenOut (l .fates) g n ∙ ap (λ (x : ℕ). x + cond (is TakenOut w) n 0) (a .taken) ∙ t;
-        cleared = number-given Cleared (l .fates) g n ∙ ap (λ (x : ℕ). x + cond (is Cleared w) n 0) (a .cleared) ∙ c;
-        overwritten = number-given Overwritten (l .fates) g n ∙ ap (λ (x : ℕ). x + cond (is Overwritten w) n 0) (a .overwritten) ∙ r;
-      }
-
   -- the oldest is overwritten
-  abbrev pub without : Fifo
-  without = record { held = drop 1 (f .held); accepted = f .accepted; taken = f .taken; cleared = f .cleared }
+  overwritten-accounts : 0 < length (f .held)
+      → Accounts (depart at l 1 Overwritten) (record { held = drop 1 (f .held); accepted = f .accepted; taken = f .taken; cleared = f .cleared }) (o + 1)
+  overwritten-accounts h =
+      departs Overwritten 1 1 _ (o + 1) (take-one (l .held) (omega (arith, as-many))) refl refl (omega arith) (omega arith) refl
 
-  pub overwritten-accounts : (at : ℕ) → 0 < length (f .held) → Accounts (fateGiven l at Overwritten 1) without (o + 1)
-  overwritten-accounts at h =
-      given-accounts at Overwritten 1 without (o + 1) (omega (arith, remaining-held)) refl refl (omega arith) (omega arith) refl
-
-pub accounts-after : {l : Ledger} {f : Fifo} {o : ℕ} → Accounts l f o → (at : ℕ) (c : Change) → OldestHeld c f
+pub accounts-after : {l : Ledger} {f : Fifo} {o : ℕ} → Accounts l f o → (side : Side) (at : ℕ) (c : Change) → Fits side c f
     → Accounts (ledgerAfter at c l) (changed _+_ c f) (overwrittenAfter _+_ c o)
-accounts-after a at Stays h = a
-accounts-after a at (Adds e) h = entered-accounts a at e
-accounts-after a at (Overwrites e) h = entered-accounts (overwritten-accounts a at h) at e
-accounts-after {l} {f} {o} a at Takes h =
-    given-accounts a at TakenOut 1 (changed _+_ Takes f) o (omega (arith, remaining-held a)) refl refl refl (omega arith) (omega arith)
-accounts-after {l} {f} {o} a at Clears h =
-    given-accounts a at Cleared (length (remaining l)) (changed _+_ Clears f) o (omega arith)
-    (ap (λ (n : ℕ). drop n (f .held)) (remaining-held a) ∙ drop-length (f .held)) refl (omega arith)
-    (ap (λ (n : ℕ). f .cleared + n) (remaining-held a)) (omega arith)
-accounts-after a at Begins h = record { within = omega arith; held = refl; accepted = refl; taken = refl; cleared = refl; overwritten = refl }
+accounts-after a side at Stays h = a
+accounts-after a side at (Adds e) h = entered-accounts a at e
+accounts-after a Receiving at (Overwrites e) h = entered-accounts (overwritten-accounts a at h) at e
+accounts-after a Transmitting at (Overwrites e) h = absurd h
+accounts-after {l} {f} {o} a side at (Takes e) h =
+    departs a at (TakenOut e) 1 1 (changed _+_ (Takes e) f) o (take-one (l .held) (omega (arith, h .0, as-many a at))) refl refl refl (omega arith) (omega arith)
+accounts-after {l} {f} {o} a side at Clears h =
+    departs a at Cleared (length (l .held)) (length (f .held)) (changed _+_ Clears f) o (take-all (l .held) ∙ as-many a at)
+    (ap (λ (n : ℕ). drop n (f .held)) (as-many a at) ∙ drop-all (f .held)) refl (omega arith) refl (omega arith)
+accounts-after a side at Begins h = record { held = refl; accepted = refl; taken = refl; cleared = refl; overwritten = refl }
 
--- ---- the entries with a fate
+-- ---- what was taken out
 
-with-none : (w : Fate) (s : List Accepted) → withFate w s [] ≡ []
-with-none w [] = refl
-with-none w (x ∷ s) = refl
+module _ (side : Side) where
+  abbrev GivenBack : Departed → Type 0
+  GivenBack d = AsAccepted side (d .accepted .entry) (d .fate)
 
--- an entry accepted behind those with a fate
-with-entered : (w : Fate) (s t : List Accepted) (gs : List Fated) → length gs ≤ length s → withFate w (s ++ t) gs ≡ withFate w s gs
-with-entered w [] t [] h = with-none w t
-with-entered w [] t (g ∷ gs) h = absurd (omega arith)
-with-entered w (x ∷ s) t [] h = refl
-with-entered w (x ∷ s) t (g ∷ gs) h = ap (λ (l : List (List ℕ)). cond (is w (g .fate)) (x .entry ∷ []) [] ++ l) (with-entered w s t gs (omega arith))
+  -- a fate that gives nothing out
+  none-given : (at : ℕ) (w : Fate) (s : List Accepted) → ((x : List ℕ) → AsAccepted side x w) → Every GivenBack (map (fated at w) s)
+  none-given at w [] h = tt
+  none-given at w (x ∷ s) h = (h (x .entry), none-given at w s h)
 
--- another fate, n times
-others-none : (w : Fate) (s : List Accepted) (g : Fated) (n : ℕ) → is w (g .fate) ≡ false → withFate w s (replicate n g) ≡ []
-others-none w [] g n e = refl
-others-none w (x ∷ s) g zero e = refl
-others-none w (x ∷ s) g (suc n) e = rw e (others-none w s g n e)
+  first-given : (at : ℕ) (e : List ℕ) (s : List Accepted) → aside side e ≡ aside side (getD (entries s) 0 [])
+      → Every GivenBack (map (fated at (TakenOut e)) (take 1 s))
+  first-given at e [] h = tt
+  first-given at e (x ∷ s) h = (h, tt)
 
-with-others : (w : Fate) (s : List Accepted) (gs : List Fated) (g : Fated) (n : ℕ) → is w (g .fate) ≡ false
-    → withFate w s (gs ++ replicate n g) ≡ withFate w s gs
-with-others w [] gs g n e = refl
-with-others w (x ∷ s) [] g n e = others-none w (x ∷ s) g n e
-with-others w (x ∷ s) (h ∷ gs) g n e = ap (λ (l : List (List ℕ)). cond (is w (h .fate)) (x .entry ∷ []) [] ++ l) (with-others w s gs g n e)
-
--- this fate, once: the oldest of those without one
-with-one : (w : Fate) (s : List Accepted) (gs : List Fated) (g : Fated) → is w (g .fate) ≡ true → length gs < length s
-    → withFate w s (gs ++ g ∷ []) ≡ withFate w s gs ++ getD (entries (drop (length gs) s)) 0 [] ∷ []
-with-one w [] gs g e h = absurd (omega arith)
-with-one w (x ∷ s) [] g e h = rw (e, with-none w s) refl
-with-one w (x ∷ s) (k ∷ gs) g e h =
-    ap (λ (l : List (List ℕ)). cond (is w (k .fate)) (x .entry ∷ []) [] ++ l) (with-one w s gs g e (omega arith))
-    ∙ sym (append-assoc (cond (is w (k .fate)) (x .entry ∷ []) []) (withFate w s gs) _)
-
--- the entries taken out, over what a change takes out of a FIFO
-abbrev pub takenAfter : Change → Fifo → List (List ℕ) → List (List ℕ)
-takenAfter Stays f out = out
-takenAfter (Adds e) f out = out
-takenAfter (Overwrites e) f out = out
-takenAfter Takes f out = out ++ getD (f .held) 0 [] ∷ []
-takenAfter Clears f out = out
-takenAfter Begins f out = []
-
-abbrev pub takenOf : Ledger → List (List ℕ)
-takenOf l = withFate TakenOut (l .accepted) (l .fates)
-
-pub taken-after : {l : Ledger} {f : Fifo} {o : ℕ} → Accounts l f o → (at : ℕ) (c : Change) → OldestHeld c f
-    → takenOf (ledgerAfter at c l) ≡ takenAfter c f (takenOf l)
-taken-after a at Stays h = refl
-taken-after {l} a at (Adds e) h = with-entered TakenOut (l .accepted) (record { entry = e; place = at } ∷ []) (l .fates) (a .within)
-taken-after {l} a at (Overwrites e) h =
-    with-entered TakenOut (l .accepted) (record { entry = e; place = at } ∷ []) (l .fates ++ record { fate = Overwritten; place = at } ∷ []) (overwritten-accounts a at h .within)
-    ∙ with-others TakenOut (l .accepted) (l .fates) (record { fate = Overwritten; place = at }) 1 refl
-taken-after {l} a at Takes h =
-    with-one TakenOut (l .accepted) (l .fates) (record { fate = TakenOut; place = at }) refl
-    (omega (arith, h, remaining-held a, length-drop (length (l .fates)) (l .accepted)))
-    ∙ ap (λ (s : List (List ℕ)). takenOf l ++ getD s 0 [] ∷ []) (a .held)
-taken-after {l} a at Clears h = with-others TakenOut (l .accepted) (l .fates) (record { fate = Cleared; place = at }) (length (remaining l)) refl
-taken-after a at Begins h = refl
+  pub given-back : {l : Ledger} {f : Fifo} {o : ℕ} → Accounts l f o → (at : ℕ) (c : Change) → Fits side c f → Every GivenBack (l .departed)
+      → Every GivenBack (ledgerAfter at c l .departed)
+  given-back a at Stays h g = g
+  given-back a at (Adds e) h g = g
+  given-back {l} a at (Overwrites e) h g = every-append GivenBack (l .departed) _ g (none-given at Overwritten (take 1 (l .held)) (λ x. tt))
+  given-back {l} a at (Takes e) h g =
+      every-append GivenBack (l .departed) _ g
+      (first-given at e (l .held) (h .1 ∙ ap (λ (s : List (List ℕ)). aside side (getD s 0 [])) (sym (a .held))))
+  given-back {l} a at Clears h g = every-append GivenBack (l .departed) _ g (none-given at Cleared (take (length (l .held)) (l .held)) (λ x. tt))
+  given-back a at Begins h g = tt

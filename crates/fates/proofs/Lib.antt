@@ -1,9 +1,8 @@
 pub mod Accepted
 pub mod Steps
-pub mod Runs
-pub mod Tells
+pub mod Answers
 pub mod Ledger
 pub mod Places
-pub mod Effects
-pub mod Balance
+pub mod Fits
 pub mod Theorem
+pub mod Consequences

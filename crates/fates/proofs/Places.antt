@@ -1,190 +1,206 @@
--- The places of a ledger are those of the calls that accepted the entries and gave the fates.
+-- The places of a ledger are those of the calls that accepted the entries and gave the fates, in order.
 -- Assumes nothing.
-use Prim.Native.Nat.{ℕ, zero, suc, _+_, _≤_, _<_}
+use Prim.Native.Nat.{ℕ, zero, suc, _≤_, _<_}
 use mathlib.Core.Path.{_≡_, refl, sym, ap, _∙_, subst}
 use mathlib.Core.List.{List, [], _∷_, _++_, map}
 use native.Mathlib.Omega.{arith}
-use lib.ListN.{length, replicate}
-use Rattle.block.specs.Fifos.{Fifo, Change, Stays, Adds, Overwrites, Takes, Clears, Begins}
+use lib.ListN.{length, take}
+use Rattle.block.specs.Fifos.{Change, Stays, Adds, Overwrites, Takes, Clears, Begins}
 use Rattle.channel_calls.specs.declared.calls.Answer.{Answer}
 use Rattle.module.specs.declared.calls.Call.{Call}
-use Rattle.fates.specs.History.{History, start, historyStep}
-use Rattle.fates.specs.Ledger.{Fate, TakenOut, Cleared, Overwritten, Accepted, Fated, Ledger, remaining, entered, fateGiven, ledgerAfter, Side, change, changeAfter, changeAt, AcceptsEntry, GivesFate, EachAccepted, EachGiven, Later, NoneBefore, InOrder}
-use Rattle.fates.specs.Accounts.{Accounts, OldestHeld}
-use Rattle.fates.proofs.Ledger.{map-append, overwritten-accounts}
+use Rattle.fates.specs.Ledger.{Side, Fate, TakenOut, Cleared, Overwritten, Accepted, Departed, Ledger, ledgerAfter, acceptedAfter, changeBehind, ledger, acceptedBy, numbered}
+use Rattle.fates.specs.Theorem.{Every}
+use Rattle.fates.specs.Beyond.{Ordered, GivesFate, GivenAt, Placed}
+use Rattle.fates.proofs.Ledger.{map-append, every-append, fated, numbered-after}
 
--- ---- places
+-- ---- lists
 
--- every place is before another
-abbrev Below : ℕ → List ℕ → Type 0
-Below at [] = Unit
-Below at (x ∷ s) = (x < at) × Below at s
+every-weaker : {A : Type 0} (P Q : A → Type 0) → ((x : A) → P x → Q x) → (s : List A) → Every P s → Every Q s
+every-weaker P Q h [] p = tt
+every-weaker P Q h (x ∷ s) p = (h x (p .0), every-weaker P Q h s (p .1))
 
-below-next : (at : ℕ) (s : List ℕ) → Below at s → Below (suc at) s
-below-next at [] h = tt
-below-next at (x ∷ s) h = (omega (arith, h .0), below-next at s (h .1))
+every-take : {A : Type 0} (P : A → Type 0) (n : ℕ) (s : List A) → Every P s → Every P (take n s)
+every-take P zero s p = tt
+every-take P (suc n) [] p = tt
+every-take P (suc n) (x ∷ s) p = (p .0, every-take P n s (p .1))
 
--- the place itself, n times behind places before it
-below-more : (at n : ℕ) (s : List ℕ) → Below at s → Below (suc at) (s ++ replicate n at)
-below-more at zero [] h = tt
-below-more at (suc n) [] h = (omega arith, below-more at n [] tt)
-below-more at n (x ∷ s) h = (omega (arith, h .0), below-more at n s (h .1))
+every-last : {A : Type 0} (P : A → Type 0) (s t : List A) → Every P (s ++ t) → Every P t
+every-last P [] t p = p
+every-last P (x ∷ s) t p = every-last P s t (p .1)
 
-none-before : (x at n : ℕ) (s : List ℕ) → x < at → NoneBefore x s → NoneBefore x (s ++ replicate n at)
-none-before x at zero [] l h = tt
-none-before x at (suc n) [] l h = (omega (arith, l), none-before x at n [] l tt)
-none-before x at n (y ∷ s) l h = (h .0, none-before x at n s l (h .1))
+every-map : {A B : Type 0} (P : B → Type 0) (f : A → B) (s : List A) → Every P (map f s) → Every (λ x. P (f x)) s
+every-map P f [] p = tt
+every-map P f (x ∷ s) p = (p .0, every-map P f s (p .1))
 
-same-order : (at n : ℕ) → InOrder (replicate n at)
-same-order at zero = tt
-same-order at (suc n) = (same at n, same-order at n)
-  where
-    same : (at n : ℕ) → NoneBefore at (replicate n at)
-    same at zero = tt
-    same at (suc n) = (omega arith, same at n)
+map-every : {A B : Type 0} (P : B → Type 0) (f : A → B) (s : List A) → Every (λ x. P (f x)) s → Every P (map f s)
+map-every P f [] p = tt
+map-every P f (x ∷ s) p = (p .0, map-every P f s (p .1))
 
-order-more : (at n : ℕ) (s : List ℕ) → Below at s → InOrder s → InOrder (s ++ replicate n at)
-order-more at n [] b h = same-order at n
-order-more at n (x ∷ s) b h = (none-before x at n s (b .0) (h .0), order-more at n s (b .1) (h .1))
+-- places in order, with others behind them
+ordered-append : (R : ℕ → ℕ → Type 0) (s t : List ℕ) → Ordered R s → Ordered R t → Every (λ x. Every (R x) t) s → Ordered R (s ++ t)
+ordered-append R [] t p q h = q
+ordered-append R (x ∷ s) t p q h = (every-append (R x) s t (p .0) (h .0), ordered-append R s t (p .1) q (h .1))
 
-map-replicate : (g : Fated) (n : ℕ) → map (λ (x : Fated). x .place) (replicate n g) ≡ replicate n (g .place)
-map-replicate g zero = refl
-map-replicate g (suc n) = ap (λ (s : List ℕ). g .place ∷ s) (map-replicate g n)
+-- ---- the entries that were accepted, by the first n calls and by one more
 
--- ---- the ledger of the calls before a place, where c is what the call at each place does
+abbrev PlacesWithin : ℕ → List Accepted → Type 0
+PlacesWithin n xs = Every (λ x. x .place ≤ n) xs
 
-module _ (c : ℕ → Change) where
-  pub record Placed (at : ℕ) (l : Ledger) : Type 0 where
-    pub accepted-before : Below at (map (λ (x : Accepted). x .place) (l .accepted))
-    pub given-before : Below at (map (λ (g : Fated). g .place) (l .fates))
-    pub each-accepted : EachAccepted c (l .accepted)
-    pub each-given : EachGiven c (l .fates)
-    pub later : Later (l .accepted) (l .fates)
-    pub accepted-in-order : InOrder (map (λ (x : Accepted). x .place) (l .accepted))
-    pub given-in-order : InOrder (map (λ (g : Fated). g .place) (l .fates))
+within-next : (n : ℕ) (xs : List Accepted) → PlacesWithin n xs → PlacesWithin (suc n) xs
+within-next n xs h = every-weaker (λ x. x .place ≤ n) (λ x. x .place ≤ suc n) (λ x p. omega (arith, p)) xs h
 
-  one-more-accepted : (s : List Accepted) (x : Accepted) → EachAccepted c s → AcceptsEntry (c (x .place)) (x .entry) → EachAccepted c (s ++ x ∷ [])
-  one-more-accepted [] x h a = (a, tt)
-  one-more-accepted (y ∷ s) x h a = (h .0, one-more-accepted s x (h .1) a)
+within-after : (n : ℕ) (c : Change) (xs : List Accepted) → PlacesWithin n xs → PlacesWithin (suc n) (acceptedAfter (suc n) c xs)
+within-after n Stays xs h = within-next n xs h
+within-after n (Adds e) xs h = every-append (λ x. x .place ≤ suc n) xs _ (within-next n xs h) (omega arith, tt)
+within-after n (Overwrites e) xs h = every-append (λ x. x .place ≤ suc n) xs _ (within-next n xs h) (omega arith, tt)
+within-after n (Takes e) xs h = within-next n xs h
+within-after n Clears xs h = within-next n xs h
+within-after n Begins xs h = tt
 
-  more-given : (s : List Fated) (g : Fated) (n : ℕ) → EachGiven c s → GivesFate (c (g .place)) (g .fate) → EachGiven c (s ++ replicate n g)
-  more-given [] g zero h a = tt
-  more-given [] g (suc n) h a = (a, more-given [] g n h a)
-  more-given (k ∷ s) g n h a = (h .0, more-given s g n (h .1) a)
+one-more : (n : ℕ) (e : List ℕ) (xs : List Accepted) → PlacesWithin n xs → Ordered _<_ (map (λ (x : Accepted). x .place) xs)
+    → Ordered _<_ (map (λ (x : Accepted). x .place) (xs ++ (record { entry = e; place = suc n } ∷ [])))
+one-more n e xs h o =
+    let place : Accepted → ℕ = λ x. x .place in
+    subst (Ordered _<_) (sym (map-append place xs (record { entry = e; place = suc n } ∷ [])))
+    (ordered-append _<_ (map place xs) (suc n ∷ []) o (tt, tt)
+    (map-every (λ y. Every (_<_ y) (suc n ∷ [])) place xs
+    (every-weaker (λ x. x .place ≤ n) (λ x. Every (_<_ (x .place)) (suc n ∷ [])) (λ x p. (omega (arith, p), tt)) xs h)))
 
--- an entry accepted behind those with a fate
-later-entered : (s : List Accepted) (gs : List Fated) (x : Accepted) → length gs ≤ length s → Later s gs → Later (s ++ x ∷ []) gs
-later-entered [] [] x h l = tt
-later-entered [] (g ∷ gs) x h l = absurd (omega arith)
-later-entered (y ∷ s) [] x h l = tt
-later-entered (y ∷ s) (g ∷ gs) x h l = (l .0, later-entered s gs x (omega arith) (l .1))
+ordered-after : (n : ℕ) (c : Change) (xs : List Accepted) → PlacesWithin n xs → Ordered _<_ (map (λ (x : Accepted). x .place) xs)
+    → Ordered _<_ (map (λ (x : Accepted). x .place) (acceptedAfter (suc n) c xs))
+ordered-after n Stays xs h o = o
+ordered-after n (Adds e) xs h o = one-more n e xs h o
+ordered-after n (Overwrites e) xs h o = one-more n e xs h o
+ordered-after n (Takes e) xs h o = o
+ordered-after n Clears xs h o = o
+ordered-after n Begins xs h o = tt
 
--- a fate given at a place, n times
-given-later : (s : List Accepted) (g : Fated) (n : ℕ) → Below (g .place) (map (λ (x : Accepted). x .place) s) → Later s (replicate n g)
-given-later [] g n b = tt
-given-later (x ∷ s) g zero b = tt
-given-later (x ∷ s) g (suc n) b = (b .0, given-later s g n (b .1))
+-- ---- the fates, by the first n calls and by one more
 
-later-given : (s : List Accepted) (gs : List Fated) (g : Fated) (n : ℕ) → Below (g .place) (map (λ (x : Accepted). x .place) s) → Later s gs
-    → Later s (gs ++ replicate n g)
-later-given [] gs g n b l = tt
-later-given (x ∷ s) [] g n b l = given-later (x ∷ s) g n b
-later-given (x ∷ s) (k ∷ gs) g n b l = (l .0, later-given s gs g n (b .1) (l .1))
+pub record InOrder (n : ℕ) (s : List ℕ) : Type 0 where
+  within : Every (λ x. x ≤ n) s
+  pub ordered : Ordered _≤_ s
 
--- ---- one call
+order-next : (n : ℕ) (s : List ℕ) → InOrder n s → InOrder (suc n) s
+order-next n s h = record { within = every-weaker (λ x. x ≤ n) (λ x. x ≤ suc n) (λ x p. omega (arith, p)) s (h .within); ordered = h .ordered }
 
-module _ (c : ℕ → Change) (at : ℕ) {l : Ledger} (p : Placed c at l) where
-  next : Placed c (suc at) l
-  next =
+module _ (n : ℕ) (w : Fate) where
+  abbrev fresh : List Accepted → List ℕ
+  fresh xs = map (λ (d : Departed). d .place) (map (fated (suc n) w) xs)
+
+  fresh-above : (x : ℕ) → x ≤ suc n → (xs : List Accepted) → Every (_≤_ x) (fresh xs)
+  fresh-above x h [] = tt
+  fresh-above x h (y ∷ xs) = (h, fresh-above x h xs)
+
+  fresh-order : (xs : List Accepted) → InOrder (suc n) (fresh xs)
+  fresh-order [] = record { within = tt; ordered = tt }
+  fresh-order (y ∷ xs) =
+      let r = fresh-order xs in
+      record { within = (omega arith, r .within); ordered = (fresh-above (suc n) (omega arith) xs, r .ordered) }
+
+  order-more : (l : Ledger) (xs : List Accepted) → InOrder n (map (λ (d : Departed). d .place) (l .departed))
+      → InOrder (suc n) (map (λ (d : Departed). d .place) (l .departed ++ map (fated (suc n) w) xs))
+  order-more l xs h =
+      let place : Departed → ℕ = λ d. d .place in
+      let s : List ℕ = map place (l .departed) in
+      let f = fresh-order xs in
+      subst (InOrder (suc n)) (sym (map-append place (l .departed) (map (fated (suc n) w) xs)))
+      (record {
+        within = every-append (λ x. x ≤ suc n) s (fresh xs) (order-next n s h .within) (f .within);
+        ordered =
+            ordered-append _≤_ s (fresh xs) (h .ordered) (f .ordered)
+            (every-weaker (λ x. x ≤ n) (λ x. Every (_≤_ x) (fresh xs)) (λ x p. fresh-above x (omega (arith, p)) xs) s (h .within));
+      })
+
+order-after : (n : ℕ) (c : Change) (l : Ledger) → InOrder n (map (λ (d : Departed). d .place) (l .departed))
+    → InOrder (suc n) (map (λ (d : Departed). d .place) (ledgerAfter (suc n) c l .departed))
+order-after n Stays l h = order-next n _ h
+order-after n (Adds e) l h = order-next n _ h
+order-after n (Overwrites e) l h = order-more n Overwritten l (take 1 (l .held)) h
+order-after n (Takes e) l h = order-more n (TakenOut e) l (take 1 (l .held)) h
+order-after n Clears l h = order-more n Cleared l (take (length (l .held)) (l .held)) h
+order-after n Begins l h = record { within = tt; ordered = tt }
+
+-- ---- a list of calls
+
+module _ (side : Side) (ch : ℕ) where
+  -- the ledger has the entries that were accepted, in number order
+  pub all-numbered : (es : List (Call × Answer)) → numbered (ledger side ch es) ≡ acceptedBy side ch es
+  all-numbered [] = refl
+  all-numbered (e ∷ before) =
+      numbered-after _ (changeBehind side ch before e) (ledger side ch before)
+      ∙ ap (acceptedAfter _ (changeBehind side ch before e)) (all-numbered before)
+
+  within : (es : List (Call × Answer)) → PlacesWithin (length es) (acceptedBy side ch es)
+  within [] = tt
+  within (e ∷ before) = within-after (length before) (changeBehind side ch before e) (acceptedBy side ch before) (within before)
+
+  ordered : (es : List (Call × Answer)) → Ordered _<_ (map (λ (x : Accepted). x .place) (acceptedBy side ch es))
+  ordered [] = tt
+  ordered (e ∷ before) = ordered-after (length before) (changeBehind side ch before e) (acceptedBy side ch before) (within before) (ordered before)
+
+  in-order : (es : List (Call × Answer)) → InOrder (length es) (map (λ (d : Departed). d .place) (ledger side ch es .departed))
+  in-order [] = record { within = tt; ordered = tt }
+  in-order (e ∷ before) = order-after (length before) (changeBehind side ch before e) (ledger side ch before) (in-order before)
+
+  -- one call more
+  later-list : (e : Call × Answer) (es : List (Call × Answer)) (d : Departed) → GivenAt side ch es d → GivenAt side ch (e ∷ es) d
+  later-list e es d g =
       record {
-        accepted-before = below-next at (map (λ (x : Accepted). x .place) (l .accepted)) (p .accepted-before);
-        given-before = below-next at (map (λ (g : Fated). g .place) (l .fates)) (p .given-before);
-        each-accepted = p .each-accepted;
-        each-given = p .each-given;
-        later = p .later;
-        accepted-in-order = p .accepted-in-order;
-        given-in-order = p .given-in-order;
+        after = e ∷ g .after;
+        call = g .call;
+        before = g .before;
+        is = ap (λ (s : List (Call × Answer)). e ∷ s) (g .is);
+        place = g .place;
+        gives = g .gives;
+        later = g .later;
       }
 
-module _ (c : ℕ → Change) (at : ℕ) {l : Ledger} where
-  -- fates are given by the call at this place, which may accept an entry behind them
-  fates-placed : Placed c at l → (f : Fate) (n : ℕ) → GivesFate (c at) f → Placed c (suc at) (fateGiven l at f n)
-  fates-placed p f n a =
-      let g : Fated = record { fate = f; place = at } in
-      let s : List ℕ = map (λ (x : Fated). x .place) (l .fates) in
-      let e : map (λ (x : Fated). x .place) (l .fates ++ replicate n g) ≡ s ++ replicate n at =
-      map-append _ (l .fates) (replicate n g) ∙ ap (λ (r : List ℕ). s ++ r) (map-replicate g n) in
+  module _ (e : Call × Answer) (before : List (Call × Answer)) where
+    abbrev l : Ledger
+    l = ledger side ch before
+
+    held-within : PlacesWithin (length before) (l .held)
+    held-within =
+        every-last (λ x. x .place ≤ length before) (map (λ (d : Departed). d .accepted) (l .departed)) (l .held)
+        (subst (PlacesWithin (length before)) (sym (all-numbered before)) (within before))
+
+    -- the fates that this call gives
+    newly : (w : Fate) (n : ℕ) → GivesFate (changeBehind side ch before e) w
+        → Every (GivenAt side ch (e ∷ before)) (map (fated (suc (length before)) w) (take n (l .held)))
+    newly w n g =
+        map-every (GivenAt side ch (e ∷ before)) (fated (suc (length before)) w) (take n (l .held))
+        (every-weaker (λ x. x .place ≤ length before) (λ x. GivenAt side ch (e ∷ before) (fated (suc (length before)) w x))
+        (λ x p. record { after = []; call = e; before = before; is = refl; place = refl; gives = g; later = omega (arith, p) }) (take n (l .held))
+        (every-take (λ x. x .place ≤ length before) n (l .held) held-within))
+
+    given-after : Every (GivenAt side ch before) (l .departed) → (c : Change) → changeBehind side ch before e ≡ c
+        → Every (GivenAt side ch (e ∷ before)) (ledgerAfter (suc (length before)) c l .departed)
+    given-after g c q = go c q
+      where
+        older : Every (GivenAt side ch (e ∷ before)) (l .departed)
+        older = every-weaker (GivenAt side ch before) (GivenAt side ch (e ∷ before)) (later-list e before) (l .departed) g
+
+        more : (w : Fate) (n : ℕ) → GivesFate (changeBehind side ch before e) w
+            → Every (GivenAt side ch (e ∷ before)) (l .departed ++ map (fated (suc (length before)) w) (take n (l .held)))
+        more w n h = every-append (GivenAt side ch (e ∷ before)) (l .departed) _ older (newly w n h)
+
+        go : (c : Change) → changeBehind side ch before e ≡ c → Every (GivenAt side ch (e ∷ before)) (ledgerAfter (suc (length before)) c l .departed)
+        go Stays q = older
+        go (Adds x) q = older
+        go (Overwrites x) q = more Overwritten 1 (subst (λ (z : Change). GivesFate z Overwritten) (sym q) refl)
+        go (Takes x) q = more (TakenOut x) 1 (subst (λ (z : Change). GivesFate z (TakenOut x)) (sym q) refl)
+        go Clears q = more Cleared (length (l .held)) (subst (λ (z : Change). GivesFate z Cleared) (sym q) refl)
+        go Begins q = tt
+
+  given : (es : List (Call × Answer)) → Every (GivenAt side ch es) (ledger side ch es .departed)
+  given [] = tt
+  given (e ∷ before) = given-after e before (given before) (changeBehind side ch before e) refl
+
+  pub placed : (es : List (Call × Answer)) → Placed side ch es
+  placed es =
       record {
-        accepted-before = below-next at (map (λ (x : Accepted). x .place) (l .accepted)) (p .accepted-before);
-        given-before = subst (Below (suc at)) (sym e) (below-more at n s (p .given-before));
-        each-accepted = p .each-accepted;
-        each-given = more-given c (l .fates) g n (p .each-given) a;
-        later = later-given (l .accepted) (l .fates) g n (p .accepted-before) (p .later);
-        accepted-in-order = p .accepted-in-order;
-        given-in-order = subst InOrder (sym e) (order-more at n s (p .given-before) (p .given-in-order));
+        accepted = subst (λ (xs : List Accepted). Ordered _<_ (map (λ (x : Accepted). x .place) xs)) (sym (all-numbered es)) (ordered es);
+        given = given es;
+        in-order = in-order es .ordered;
       }
-
-  -- an entry accepted by the call at this place, behind the entries of the calls before
-  entry-placed : (l′ : Ledger) → Placed c at l → l′ .accepted ≡ l .accepted → length (l′ .fates) ≤ length (l′ .accepted) → Placed c (suc at) l′ → (e : List ℕ)
-      → AcceptsEntry (c at) e → Placed c (suc at) (entered l′ at e)
-  entry-placed l′ p same h q e a =
-      let x : Accepted = record { entry = e; place = at } in
-      let s : List ℕ = map (λ (y : Accepted). y .place) (l′ .accepted) in
-      let b : Below at s = subst (λ (r : List Accepted). Below at (map (λ (y : Accepted). y .place) r)) (sym same) (p .accepted-before) in
-      let m : map (λ (y : Accepted). y .place) (l′ .accepted ++ x ∷ []) ≡ s ++ at ∷ [] = map-append _ (l′ .accepted) (x ∷ []) in
-      record {
-        accepted-before = subst (Below (suc at)) (sym m) (below-more at 1 s b);
-        given-before = q .given-before;
-        each-accepted = one-more-accepted c (l′ .accepted) x (q .each-accepted) a;
-        each-given = q .each-given;
-        later = later-entered (l′ .accepted) (l′ .fates) x h (q .later);
-        accepted-in-order = subst InOrder (sym m) (order-more at 1 s b (q .accepted-in-order));
-        given-in-order = q .given-in-order;
-      }
-
-pub none-placed : (c : ℕ → Change) (at : ℕ) → Placed c at (record { accepted = []; fates = [] })
-none-placed c at =
-    record {
-      accepted-before = tt;
-      given-before = tt;
-      each-accepted = tt;
-      each-given = tt;
-      later = tt;
-      accepted-in-order = tt;
-      given-in-order = tt;
-    }
-
-pub placed-after : (c : ℕ → Change) {l : Ledger} {f : Fifo} {o : ℕ} → Accounts l f o → (at : ℕ) (x : Change) → c at ≡ x → OldestHeld x f → Placed c at l
-    → Placed c (suc at) (ledgerAfter at x l)
-placed-after c a at Stays e h p = next c at p
-placed-after c {l} a at (Adds y) e h p =
-    entry-placed c at l p refl (a .within) (next c at p) y (subst (λ (z : Change). AcceptsEntry z y) (sym e) refl)
-placed-after c {l} a at (Overwrites y) e h p =
-    entry-placed c at (fateGiven l at Overwritten 1) p refl (overwritten-accounts a at h .within)
-    (fates-placed c at p Overwritten 1 (subst (λ (z : Change). GivesFate z Overwritten) (sym e) refl)) y
-    (subst (λ (z : Change). AcceptsEntry z y) (sym e) refl)
-placed-after c a at Takes e h p = fates-placed c at p TakenOut 1 (subst (λ (z : Change). GivesFate z TakenOut) (sym e) refl)
-placed-after c {l} a at Clears e h p =
-    fates-placed c at p Cleared (length (remaining l)) (subst (λ (z : Change). GivesFate z Cleared) (sym e) refl)
-placed-after c a at Begins e h p = none-placed c (suc at)
-
--- ---- the calls of a list
-
-module _ (side : Side) (ch : ℕ) (c : ℕ → Change) where
-  -- c is what each call from a place on does, by the history before it
-  abbrev pub Matches : ℕ → List (Call × Answer) → History → Type 0
-  Matches at [] h = Unit
-  Matches at (e ∷ es) h = (c at ≡ change side ch (e .0) (e .1) h) × Matches (suc at) es (historyStep (e .0) (e .1) h)
-
-  matches-from : (n : ℕ) (es : List (Call × Answer)) (h : History) → ((m : ℕ) → c (suc (n + m)) ≡ changeAfter side ch m es h) → Matches (suc n) es h
-  matches-from n [] h k = tt
-  matches-from n (e ∷ es) h k = (
-    let z : n + 0 ≡ n = omega arith in subst (λ (x : ℕ). c (suc x) ≡ change side ch (e .0) (e .1) h) z (k 0),
-    matches-from (suc n) es (historyStep (e .0) (e .1) h)
-        (λ m. let z : n + suc m ≡ suc n + m = omega arith in subst (λ (x : ℕ). c (suc x) ≡ changeAfter side ch m es (historyStep (e .0) (e .1) h)) z (k (suc m))),
-  )
-
-pub matches : (side : Side) (ch : ℕ) (es : List (Call × Answer)) → Matches side ch (changeAt side ch es) 1 es start
-matches side ch es =
-    matches-from side ch (changeAt side ch es) 0 es start
-    (λ m. let z : m ≡ 0 + m = omega arith in subst (λ (x : ℕ). changeAt side ch es (suc x) ≡ changeAfter side ch m es start) z refl)

@@ -1,96 +1,218 @@
 -- The theorem of the fates, for every list of calls, every memory and every number of lent words.
 -- Assumes nothing.
-use Prim.Native.Nat.{ℕ}
-use mathlib.Core.Path.{_≡_, refl, sym, ap, _∙_}
-use mathlib.Core.List.{List, [], _∷_}
+use Prim.Native.Nat.{ℕ, suc, _+_, _≤_}
+use mathlib.Core.Path.{_≡_, refl, sym, ap, _∙_, subst}
+use mathlib.Core.Bool.{Bool, true, false, cond, true≢false}
+use mathlib.Core.List.{List, [], _∷_, _++_}
 use native.Mathlib.Omega.{arith}
-use lib.ListN.{length, take, length-take, length-drop, take-append-drop}
-use Rattle.block.specs.Layout.{word}
-use Rattle.block.specs.Fifos.{fifo, Change}
-use Rattle.channel_laws.specs.Kept.{Kept, keptOf}
-use Rattle.module.specs.Perform.{answer}
+use borrow.Author.Tests.{eqb-true, le-ltb}
+use lib.Dec.{eqb}
+use lib.ListN.{length, take, drop, length-append, length-take, take-append-drop}
+use Rattle.block.specs.Counts.{rolled}
+use Rattle.block.specs.Fifos.{Fifo, Change, Stays, Adds, Overwrites, Takes, Clears, Begins, changed, overwrittenAfter}
+use Rattle.block.specs.Kept.{Kept, keptOf}
+use Rattle.channel.specs.Told.{Told}
+use Rattle.channel_calls.specs.declared.calls.ReadCall.the-variants.{ReadCounts, ReadReceiveLevel, ReadTransmitLevel}
+use Rattle.channel_calls.specs.declared.calls.ChannelCall.{ChannelCall}
+use Rattle.channel_calls.specs.declared.calls.ChannelCall.the-variants.{Reads}
+use Rattle.channel_calls.specs.declared.calls.Answer.{Answer}
+use Rattle.channel_calls.specs.declared.calls.Answer.the-variants.{Done, Refused, Value, Fates}
+use Rattle.frame.specs.Layout.{count, need, block}
+use Rattle.power.specs.Power.{powerRefusal, powered}
+use Rattle.module.specs.Perform.{answer, after}
 use Rattle.module.specs.declared.calls.Call.{Call}
 use Rattle.module.specs.declared.calls.Call.the-variants.{PowerUp, Reset, Wide, On}
-use Rattle.block.specs.Counts.{rolled}
 use Rattle.module_laws.specs.Reduced.{reduced}
-use Rattle.fates.specs.Run.{run, events}
-use Rattle.fates.specs.History.{start, history}
-use Rattle.fates.specs.Tells.{AllTold}
-use Rattle.fates.specs.Ledger.{Ledger, Side, Receiving, Transmitting, fifoOf, overwrittenOf}
+use Rattle.module_laws.proofs.Beyond.{same-length}
+use Rattle.fates.specs.Run.{lent, run, answerBehind, events}
+use Rattle.fates.specs.History.{History, start, isRefused, historyStep, history}
+use Rattle.fates.specs.Ledger.{Side, Receiving, Transmitting, fifoOf, overwrittenOf, Ledger, Departed, changeBehind, ledger, Fits, cleared, overwritten}
+use Rattle.fates.specs.Answers.{Answered}
 use Rattle.fates.specs.Agrees.{Agrees}
-use Rattle.fates.specs.Theorem.{PoweredUp, offsetsOf, storedOverwritten, Accounted, Theorem, Demand3}
-use Rattle.fates.proofs.Runs.{agrees, answered}
-use Rattle.fates.proofs.Tells.{all-told}
-use Rattle.fates.proofs.Ledger.{number-all}
-use Rattle.fates.proofs.Places.{Placed}
-use Rattle.fates.proofs.Balance.{Balance, balanced, placed, never-empty}
+use Rattle.fates.specs.Theorem.{PoweredUp, Started, Every, AsAccepted, Accounts, Demand3}
+use Rattle.fates.specs.Beyond.{BeyondDemand3}
+use Rattle.fates.proofs.Steps.{powers, step}
+use Rattle.fates.proofs.Answers.{power-answered, answered}
+use Rattle.fates.proofs.Ledger.{map-length, accounts-after, given-back}
+use Rattle.fates.proofs.Places.{all-numbered, placed}
+use Rattle.fates.proofs.Fits.{oldest-shown, fits}
 
--- what a block stores of a FIFO is what the history keeps, the counts modulo 2 ^ 32
-record Stored (side : Side) (h : Kept) (b : List ℕ) : Type 0 where
-  held : fifo (offsetsOf side) b .held ≡ fifoOf side h .held
-  accepted : word b (offsetsOf side .accepted) ≡ rolled (fifoOf side h .accepted)
-  taken : word b (offsetsOf side .taken) ≡ rolled (fifoOf side h .taken)
-  cleared : word b (offsetsOf side .cleared) ≡ rolled (fifoOf side h .cleared)
-  overwritten : storedOverwritten side b ≡ rolled (overwrittenOf side h)
+-- ---- the memory and the answers
 
-stored : (side : Side) {h : Kept} {b : List ℕ} → keptOf b ≡ reduced h → Stored side h b
-stored Receiving e =
+module _ (m : List ℕ) where
+  -- the first call
+  first : (k : ℕ) (c : Call) → PoweredUp c (answer c (take k m)) → Agrees (historyStep c (answer c (take k m)) start) (lent k c m)
+  first k (PowerUp n) = go (eqb (powerRefusal n (length (take k m))) 0) refl
+    where
+      go : (t : Bool) → eqb (powerRefusal n (length (take k m))) 0 ≡ t →
+          let a = cond t Done (Refused (powerRefusal n (length (take k m)))) in
+          isRefused a ≡ false → Agrees (historyStep (PowerUp n) a start) (cond t (powered n (take k m)) (take k m) ++ drop k m)
+      go true e d = powers n start (take k m) (drop k m) (eqb-true _ _ e)
+      go false e d = absurd (true≢false d)
+  first k Reset = λ s. absurd s
+  first k (Wide w) = λ s. absurd s
+  first k (On ch w) = λ s. absurd s
+
+  agrees : (calls : List (ℕ × Call)) → Started m calls → Agrees (history (events m calls)) (run m calls)
+  agrees [] s = absurd s
+  agrees (x ∷ []) s = first (x .0) (x .1) s
+  agrees (x ∷ y ∷ before) s = step (history (events m (y ∷ before))) (run m (y ∷ before)) (x .0) (x .1) (agrees (y ∷ before) s)
+
+  -- every call leaves the memory as long as it was
+  run-length : (calls : List (ℕ × Call)) → length (run m calls) ≡ length m
+  run-length [] = refl
+  run-length (x ∷ before) =
+      let r : List ℕ = run m before in
+      length-append (after (x .1) (take (x .0) r)) (drop (x .0) r)
+      ∙ ap (λ (n : ℕ). n + length (drop (x .0) r)) (same-length (x .1) (take (x .0) r))
+      ∙ sym (length-append (take (x .0) r) (drop (x .0) r)) ∙ ap length (take-append-drop (x .0) r) ∙ run-length before
+
+  lent-length : (calls : List (ℕ × Call)) (k : ℕ) → length (take k (run m calls)) ≡ length (take k m)
+  lent-length calls k = omega (arith, length-take k (run m calls), length-take k m, run-length calls)
+
+  -- a call behind a list that has started
+  behind : (calls : List (ℕ × Call)) → Started m calls → (k : ℕ) (c : Call)
+      → Answered (length (take k m)) c (answerBehind m calls k c) (history (events m calls))
+  behind calls s k c =
+      subst (λ (n : ℕ). Answered n c (answerBehind m calls k c) (history (events m calls))) (lent-length calls k)
+      (answered (agrees calls s) (oldest-shown (events m calls)) k c)
+
+  -- every call of a list
+  abbrev AllAnswered : List (ℕ × Call) → Type 0
+  AllAnswered [] = Unit
+  AllAnswered (x ∷ before) =
+      Answered (length (take (x .0) m)) (x .1) (answerBehind m before (x .0) (x .1)) (history (events m before)) × AllAnswered before
+
+  first-answered : (k : ℕ) (c : Call) → PoweredUp c (answer c (take k m)) → Answered (length (take k m)) c (answer c (take k m)) start
+  first-answered k (PowerUp n) s = power-answered n (length (take k m)) start
+  first-answered k Reset s = absurd s
+  first-answered k (Wide w) s = absurd s
+  first-answered k (On ch w) s = absurd s
+
+  all-answered : (calls : List (ℕ × Call)) → Started m calls → AllAnswered calls
+  all-answered [] s = absurd s
+  all-answered (x ∷ []) s = (first-answered (x .0) (x .1) s, tt)
+  all-answered (x ∷ y ∷ before) s = (behind (y ∷ before) s (x .0) (x .1), all-answered (y ∷ before) s)
+
+  one-answered : (later before : List (ℕ × Call)) (k : ℕ) (c : Call) → AllAnswered (later ++ (k, c) ∷ before)
+      → Answered (length (take k m)) c (answerBehind m before k c) (history (events m before))
+  one-answered [] before k c h = h .0
+  one-answered (x ∷ later) before k c h = one-answered later before k c (h .1)
+
+  -- a read of a channel behind the list, lent all that it needs
+  told-behind : (calls : List (ℕ × Call)) → Started m calls → (ch : ℕ) → 1 ≤ ch → ch ≤ history (events m calls) .count → (n : ℕ)
+      → need (history (events m calls) .count) ≤ n → (k : ChannelCall)
+      → Told (reduced (history (events m calls) .kept ch)) k (answerBehind m calls n (On ch k))
+  told-behind calls s ch low high n enough k =
+      let h : History = history (events m calls) in
+      let g : Agrees h (run m calls) = agrees calls s in
+      let room : need (h .count) ≤ length (run m calls) = rw (g .count) at (g .sane .frame .room) in
+      let long : need (h .count) ≤ length (take n m) = omega (arith, length-take n m, run-length calls) in
+      let t = behind calls s n (On ch k) in
+      rw (le-ltb (length (take n m)) (need (h .count)) long, le-ltb ch 1 low, le-ltb (h .count) ch high) at t .0
+
+-- ---- the fates
+
+abbrev AllFit : List (Call × Answer) → Type 0
+AllFit [] = Unit
+AllFit (e ∷ before) = ((side : Side) (ch : ℕ) → Fits side (changeBehind side ch before e) (fifoOf side (history before .kept ch))) × AllFit before
+
+all-fit : (m : List ℕ) (calls : List (ℕ × Call)) → AllAnswered m calls → AllFit (events m calls)
+all-fit m [] h = tt
+all-fit m (x ∷ before) h = (
+  fits (events m before) (length (take (x .0) m)) (x .1) (answerBehind m before (x .0) (x .1)) (h .0),
+  all-fit m before (h .1),
+)
+
+one-fits : (later before : List (Call × Answer)) (e : Call × Answer) → AllFit (later ++ e ∷ before) → (side : Side) (ch : ℕ)
+    → Fits side (changeBehind side ch before e) (fifoOf side (history before .kept ch))
+one-fits [] before e h = h .0
+one-fits (x ∷ later) before e h = one-fits later before e (h .1)
+
+none-overwritten : (c : Change) (f : Fifo) → Fits Transmitting c f → overwrittenAfter _+_ c 0 ≡ 0
+none-overwritten Stays f h = refl
+none-overwritten (Adds e) f h = refl
+none-overwritten (Overwrites e) f h = absurd h
+none-overwritten (Takes e) f h = refl
+none-overwritten Clears f h = refl
+none-overwritten Begins f h = refl
+
+-- the ledger accounts for what the history holds and counts, and gave back what was accepted
+record Balance (side : Side) (ch : ℕ) (es : List (Call × Answer)) : Type 0 where
+  accounts : Accounts (ledger side ch es) (fifoOf side (history es .kept ch)) (overwrittenOf side (history es .kept ch))
+  back : Every (λ (d : Departed). AsAccepted side (d .accepted .entry) (d .fate)) (ledger side ch es .departed)
+
+balance : (side : Side) (ch : ℕ) (es : List (Call × Answer)) → AllFit es → Balance side ch es
+balance Receiving ch [] h = record { accounts = record { held = refl; accepted = refl; taken = refl; cleared = refl; overwritten = refl }; back = tt }
+balance Transmitting ch [] h = record { accounts = record { held = refl; accepted = refl; taken = refl; cleared = refl; overwritten = refl }; back = tt }
+balance Receiving ch (e ∷ before) h =
+    let b = balance Receiving ch before (h .1) in
+    let c : Change = changeBehind Receiving ch before e in
     record {
-      held = ap (λ (k : Kept). k .receive .held) e;
-      accepted = ap (λ (k : Kept). k .receive .accepted) e;
-      taken = ap (λ (k : Kept). k .receive .taken) e;
-      cleared = ap (λ (k : Kept). k .receive .cleared) e;
-      overwritten = ap (λ (k : Kept). k .overwritten) e;
+      accounts = accounts-after (b .accounts) Receiving (suc (length before)) c (h .0 Receiving ch);
+      back = given-back Receiving (b .accounts) (suc (length before)) c (h .0 Receiving ch) (b .back);
     }
-stored Transmitting e =
+balance Transmitting ch (e ∷ before) h =
+    let b = balance Transmitting ch before (h .1) in
+    let c : Change = changeBehind Transmitting ch before e in
+    let f : Fifo = fifoOf Transmitting (history before .kept ch) in
     record {
-      held = ap (λ (k : Kept). k .transmit .held) e;
-      accepted = ap (λ (k : Kept). k .transmit .accepted) e;
-      taken = ap (λ (k : Kept). k .transmit .taken) e;
-      cleared = ap (λ (k : Kept). k .transmit .cleared) e;
-      overwritten = refl;
+      accounts =
+          subst (Accounts (ledger Transmitting ch (e ∷ before)) (changed _+_ c f)) (none-overwritten c f (h .0 Transmitting ch))
+          (accounts-after (b .accounts) Transmitting (suc (length before)) c (h .0 Transmitting ch));
+      back = given-back Transmitting (b .accounts) (suc (length before)) c (h .0 Transmitting ch) (b .back);
     }
 
--- a balanced ledger with its places, and the block that agrees with the history
-accounted : (side : Side) {l : Ledger} {s : List (List ℕ)} {c : ℕ → Change} {h : Kept} {b : List ℕ} {n : ℕ} → Balance side l s h → Placed c n l → keptOf b ≡ reduced h
-    → Accounted side l s c h b
-accounted side {l} {s} {c} {h} {b} x p e =
-    let a = x .accounts in
-    let k : Stored side h b = stored side e in
-    record {
-      one-fate = omega (arith, a .within, length-take (length (l .fates)) (l .accepted));
-      then-held = sym (take-append-drop (length (l .fates)) (l .accepted));
-      each-accepted = p .each-accepted;
-      each-given = p .each-given;
-      later = p .later;
-      accepted-in-order = p .accepted-in-order;
-      given-in-order = p .given-in-order;
-      conserved = omega (arith, a .within, number-all (l .fates), length-drop (length (l .fates)) (l .accepted));
-      out = x .out;
-      held = k .held ∙ sym (a .held);
-      history = a;
-      accepted = k .accepted ∙ ap rolled (sym (a .accepted));
-      taken = k .taken ∙ ap rolled (sym (a .taken));
-      cleared = k .cleared ∙ ap rolled (sym (a .cleared));
-      overwritten = k .overwritten ∙ ap rolled (sym (a .overwritten));
-    }
+held-stored : (side : Side) (b : List ℕ) (h : Kept) → keptOf b ≡ reduced h → fifoOf side (keptOf b) .held ≡ fifoOf side h .held
+held-stored Receiving b h e = ap (λ (x : Kept). x .receive .held) e
+held-stored Transmitting b h e = ap (λ (x : Kept). x .transmit .held) e
 
-by-first : (k : ℕ) (c : Call) (cs : List (ℕ × Call)) (m : List ℕ) → PoweredUp c (answer c (take k m)) → Theorem ((k, c) ∷ cs) m
-by-first k (PowerUp n) cs m s =
-    let calls : List (ℕ × Call) = (k, PowerUp n) ∷ cs in
-    let t : AllTold (events calls m) start = all-told k n cs m s in
-    let g : Agrees (history (events calls m) start) (run calls m) = agrees k n cs m s in
-    record {
-      answers = λ before k′ c rest e. ap (λ (x : List (ℕ × Call)). events x m) e ∙ answered before k′ c rest m;
-      tells = t;
-      oldest = λ side ch. never-empty side ch (events calls m) t;
-      agrees = g;
-      fifos = λ side ch p q. accounted side (balanced side ch (events calls m) t) (placed side ch (events calls m) t .1) (g .kept ch p q);
-    }
-by-first k Reset cs m s = absurd s
-by-first k (Wide w) cs m s = absurd s
-by-first k (On ch w) cs m s = absurd s
+-- the entries held are as many as the ledger's
+as-many : {l : Ledger} {f : Fifo} {o : ℕ} → Accounts l f o → length (f .held) ≡ length (l .held)
+as-many {l} a = sym (ap length (a .held)) ∙ map-length _ (l .held)
 
 pub theorem : Demand3
-theorem [] m s = absurd s
-theorem (x ∷ cs) m s = by-first (x .0) (x .1) cs m s
+theorem m calls s =
+    record {
+      answers = λ later before k c e. one-answered m later before k c (subst (AllAnswered m) e all);
+      oldest = λ later before e q. one-fits later before e (subst AllFit q fit);
+      fates =
+          λ side ch low high.
+          let b = balance side ch es fit in
+          record {
+            one-fate = all-numbered side ch es;
+            as-accepted = b .back;
+            held = held-stored side (block (run m calls) ch) (h .kept ch) (g .kept ch low high) ∙ sym (b .accounts .held);
+            from-answers = b .accounts;
+          };
+      reads =
+          λ ch low high n enough.
+          let r = balance Receiving ch es fit .accounts in
+          let t = balance Transmitting ch es fit .accounts in
+          let read = told-behind m calls s ch low high n enough in
+          record {
+            counts =
+                read (Reads ReadCounts)
+                ∙ sym (λ i. Fates (rolled (r .accepted i)) (rolled (r .taken i)) (rolled (r .cleared i)) (rolled (r .overwritten i)) (rolled (t .accepted i)) (rolled (t .taken i)) (rolled (t .cleared i)));
+            receive-level = read (Reads ReadReceiveLevel) ∙ ap Value (as-many r);
+            transmit-level = read (Reads ReadTransmitLevel) ∙ ap Value (as-many t);
+          };
+    }
+  where
+    es : List (Call × Answer)
+    es = events m calls
+
+    h : History
+    h = history (events m calls)
+
+    g : Agrees (history (events m calls)) (run m calls)
+    g = agrees m calls s
+
+    all : AllAnswered m calls
+    all = all-answered m calls s
+
+    fit : AllFit (events m calls)
+    fit = all-fit m calls (all-answered m calls s)
+
+pub beyond : BeyondDemand3
+beyond m calls s = record { stored = agrees m calls s; places = λ side ch. placed side ch (events m calls) }

@@ -3,8 +3,9 @@ use Prim.Native.Nat.{ℕ, _≤_}
 use mathlib.Core.Path.{_≡_}
 use mathlib.Core.List.{List}
 use Rattle.block.specs.Layout.{word}
-use Rattle.channel_laws.specs.Kept.{keptOf}
-use Rattle.frame.specs.Layout.{count, stamp, resolution, threshold, block}
+use Rattle.block.specs.Kept.{keptOf}
+use Rattle.frame.specs.Layout.{count, block}
+use Rattle.wide.specs.Part.{partOf}
 use Rattle.module_laws.specs.Sane.{Sane}
 use Rattle.module_laws.specs.Reduced.{reduced}
 use Rattle.fates.specs.History.{History}
@@ -13,7 +14,5 @@ use Rattle.fates.specs.History.{History}
 pub record Agrees (h : History) (m : List ℕ) : Type 0 where
   pub sane : Sane m
   pub count : word m count ≡ h .count
-  pub stamp : word m stamp ≡ h .part .stamp
-  pub resolution : word m resolution ≡ h .part .resolution
-  pub threshold : word m threshold ≡ h .part .threshold
+  pub part : partOf m ≡ h .part
   pub kept : (ch : ℕ) → 1 ≤ ch → ch ≤ h .count → keptOf (block m ch) ≡ reduced (h .kept ch)

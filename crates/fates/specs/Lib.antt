@@ -1,8 +1,7 @@
 pub mod Run
 pub mod History
-pub mod Agrees
-pub mod Tells
 pub mod Ledger
-pub mod GivenOut
-pub mod Accounts
+pub mod Answers
+pub mod Agrees
 pub mod Theorem
+pub mod Beyond

@@ -1,4 +1,4 @@
--- A run of calls on a module's memory, each with the number of words that it is lent (demand 3).
+-- A run of calls on a module's memory, each with the number of words that it is lent (demand 3). A list of calls has the latest first.
 use Prim.Native.Nat.{ℕ}
 use mathlib.Core.List.{List, [], _∷_, _++_}
 use lib.ListN.{take, drop}
@@ -10,12 +10,17 @@ use Rattle.module.specs.declared.calls.Call.{Call}
 abbrev pub lent : ℕ → Call → List ℕ → List ℕ
 lent k c m = after c (take k m) ++ drop k m
 
--- "as the one before left it": the memory after a list of calls
-abbrev pub run : List (ℕ × Call) → List ℕ → List ℕ
-run [] m = m
-run (x ∷ cs) m = run cs (lent (x .0) (x .1) m)
+module _ (m : List ℕ) where
+  -- "as the one before left it": the memory after a list of calls, on memory m
+  abbrev pub run : List (ℕ × Call) → List ℕ
+  run [] = m
+  run (x ∷ before) = lent (x .0) (x .1) (run before)
 
--- "the calls in order, each with its arguments and answer"
-abbrev pub events : List (ℕ × Call) → List ℕ → List (Call × Answer)
-events [] m = []
-events (x ∷ cs) m = (x .1, answer (x .1) (take (x .0) m)) ∷ events cs (lent (x .0) (x .1) m)
+  -- the answer of a call behind a list of calls
+  abbrev pub answerBehind : List (ℕ × Call) → ℕ → Call → Answer
+  answerBehind before k c = answer c (take k (run before))
+
+  -- "the calls in order, each with its arguments and answer"
+  abbrev pub events : List (ℕ × Call) → List (Call × Answer)
+  events [] = []
+  events (x ∷ before) = (x .1, answerBehind before (x .0) (x .1)) ∷ events before

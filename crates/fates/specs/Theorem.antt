@@ -1,25 +1,24 @@
--- Demand 3: what holds after every list of calls of which the first is an accepted power-up.
-use Prim.Native.Nat.{ℕ, _+_, _≤_}
+-- Demand 3: what holds after every list of calls, the latest first, of which the first is an accepted power-up.
+use Prim.Native.Nat.{ℕ, _≤_}
 use mathlib.Core.Path.{_≡_}
 use mathlib.Core.Bool.{false}
-use mathlib.Core.List.{List, [], _∷_, _++_, map}
+use mathlib.Core.List.{List, [], _∷_, _++_}
 use lib.ListN.{length, take}
-use Rattle.block.specs.Layout.{word, receiveOverwritten}
-use Rattle.block.specs.Fifos.{Offsets, receiveOffsets, transmitOffsets, fifo, Change}
+use Rattle.block.specs.Counts.{rolled}
+use Rattle.block.specs.Fifos.{Fifo}
+use Rattle.block.specs.Kept.{keptOf}
+use Rattle.channel_calls.specs.declared.calls.ReadCall.the-variants.{ReadCounts, ReadReceiveLevel, ReadTransmitLevel}
+use Rattle.channel_calls.specs.declared.calls.ChannelCall.the-variants.{Reads}
 use Rattle.channel_calls.specs.declared.calls.Answer.{Answer}
-use Rattle.channel_laws.specs.Kept.{Kept}
-use Rattle.frame.specs.Layout.{block}
+use Rattle.channel_calls.specs.declared.calls.Answer.the-variants.{Value, Fates}
+use Rattle.frame.specs.Layout.{need, block}
 use Rattle.module.specs.Perform.{answer}
 use Rattle.module.specs.declared.calls.Call.{Call}
 use Rattle.module.specs.declared.calls.Call.the-variants.{PowerUp, Reset, Wide, On}
-use Rattle.block.specs.Counts.{rolled}
-use Rattle.fates.specs.Run.{run, events}
-use Rattle.fates.specs.History.{History, start, isRefused, history}
-use Rattle.fates.specs.Agrees.{Agrees}
-use Rattle.fates.specs.Tells.{AllTold}
-use Rattle.fates.specs.Ledger.{TakenOut, Cleared, Overwritten, Ledger, departed, remaining, number, withFate, entries, Side, Receiving, Transmitting, fifoOf, overwrittenOf, ledger, changeAt, EachAccepted, EachGiven, Later, InOrder}
-use Rattle.fates.specs.GivenOut.{givenOut, aside}
-use Rattle.fates.specs.Accounts.{Accounts, NeverEmpty}
+use Rattle.fates.specs.Run.{run, answerBehind, events}
+use Rattle.fates.specs.History.{isRefused, history}
+use Rattle.fates.specs.Ledger.{Side, Receiving, Transmitting, fifoOf, overwrittenOf, aside, Fate, TakenOut, Cleared, Overwritten, Ledger, changeBehind, ledger, acceptedBy, Fits, numbered, entries, takenOut, cleared, overwritten}
+use Rattle.fates.specs.Answers.{Answered}
 
 -- ---- "The first is an accepted power-up."
 
@@ -29,77 +28,73 @@ PoweredUp Reset a = ⊥
 PoweredUp (Wide k) a = ⊥
 PoweredUp (On ch k) a = ⊥
 
-abbrev pub Started : List (ℕ × Call) → List ℕ → Type 0
-Started [] m = ⊥
-Started (x ∷ cs) m = PoweredUp (x .1) (answer (x .1) (take (x .0) m))
+abbrev pub Started : List ℕ → List (ℕ × Call) → Type 0
+Started m [] = ⊥
+Started m (x ∷ []) = PoweredUp (x .1) (answer (x .1) (take (x .0) m))
+Started m (x ∷ y ∷ before) = Started m (y ∷ before)
 
--- ---- what a channel's block stores of a FIFO
+-- ---- the demand's words for lists and ledgers
 
-abbrev pub offsetsOf : Side → Offsets
-offsetsOf Receiving = receiveOffsets
-offsetsOf Transmitting = transmitOffsets
+abbrev pub Every : {A : Type 0} → (A → Type 0) → List A → Type 0
+Every P [] = Unit
+Every P (x ∷ xs) = P x × Every P xs
 
-abbrev pub storedOverwritten : Side → List ℕ → ℕ
-storedOverwritten Receiving b = word b receiveOverwritten
-storedOverwritten Transmitting b = 0
+-- "Each entry taken out is as it was accepted (on sending, its parity bit aside)"
+abbrev pub AsAccepted : Side → List ℕ → Fate → Type 0
+AsAccepted side x (TakenOut e) = aside side e ≡ aside side x
+AsAccepted side x Cleared = Unit
+AsAccepted side x Overwritten = Unit
 
--- ---- the fates of a FIFO's entries
+-- "whole-number counts", and what is held, as the ledger has them
+pub record Accounts (l : Ledger) (f : Fifo) (o : ℕ) : Type 0 where
+  pub held : entries (l .held) ≡ f .held
+  pub accepted : length (numbered l) ≡ f .accepted
+  pub taken : takenOut l ≡ f .taken
+  pub cleared : cleared l ≡ f .cleared
+  pub overwritten : overwritten l ≡ o
 
--- l is its ledger, s what the answers gave out of it, c what the call at each place does to it, h what the history keeps of its channel, b the
--- channel's block
-pub record Accounted (side : Side) (l : Ledger) (s : List (List ℕ)) (c : ℕ → Change) (h : Kept) (b : List ℕ) : Type 0 where
-  -- "Each has exactly one fate: taken out (read or sent), cleared, overwritten or still held.": first those with a fate of the ledger, each
-  -- with one, then those held
-  pub one-fate : length (departed l) ≡ length (l .fates)
-  pub then-held : l .accepted ≡ departed l ++ remaining l
-  -- each entry has the place of the call that accepted it, each fate that of the later call that gave it; both in the order of the list
-  pub each-accepted : EachAccepted c (l .accepted)
-  pub each-given : EachGiven c (l .fates)
-  pub later : Later (l .accepted) (l .fates)
-  pub accepted-in-order : InOrder (map (λ x. x .place) (l .accepted))
-  pub given-in-order : InOrder (map (λ g. g .place) (l .fates))
-  -- "So accepted = taken out + cleared + overwritten + held."
-  pub conserved :
-      length (l .accepted) ≡ number TakenOut (l .fates) + number Cleared (l .fates) + number Overwritten (l .fates) + length (remaining l)
-  -- "Each entry taken out is as it was accepted (on sending, its parity bit aside), in number order."
-  pub out : map (aside side) s ≡ map (aside side) (withFate TakenOut (l .accepted) (l .fates))
-  -- "The held ones are the newest, and exactly these are in the FIFO, oldest first."
-  pub held : fifo (offsetsOf side) b .held ≡ entries (remaining l)
-  -- "The description's history gives it from the calls and their answers alone": the ledger's held entries and counts are the history's
-  pub history : Accounts l (fifoOf side h) (overwrittenOf side h)
-  -- "Accepted and fate counts equal the history's, modulo 4,294,967,296, also across module resets."
-  pub accepted : word b (offsetsOf side .accepted) ≡ rolled (length (l .accepted))
-  pub taken : word b (offsetsOf side .taken) ≡ rolled (number TakenOut (l .fates))
-  pub cleared : word b (offsetsOf side .cleared) ≡ rolled (number Cleared (l .fates))
-  pub overwritten : storedOverwritten side b ≡ rolled (number Overwritten (l .fates))
+-- the counts as a call answers them, "modulo 4,294,967,296": of the receive FIFO and of the transmit FIFO
+abbrev pub countsOf : Ledger → Ledger → Answer
+countsOf r t =
+    Fates (rolled (length (numbered r))) (rolled (takenOut r)) (rolled (cleared r)) (rolled (overwritten r))
+    (rolled (length (numbered t))) (rolled (takenOut t)) (rolled (cleared t))
 
--- ---- the theorem
+-- ---- the demand
 
-module _ (calls : List (ℕ × Call)) (m : List ℕ) where
-  -- "the calls in order, each with its arguments and answer", and the history that they give
-  abbrev pub callsAndAnswers : List (Call × Answer)
-  callsAndAnswers = events calls m
+module _ (m : List ℕ) (calls : List (ℕ × Call)) where
+  abbrev pub told : List (Call × Answer)
+  told = events m calls
 
-  abbrev pub historyAfter : History
-  historyAfter = history callsAndAnswers start
+  -- the fates of the entries of a FIFO of channel ch
+  pub record OneFate (side : Side) (ch : ℕ) : Type 0 where
+    -- "number the entries that each FIFO accepted since the last accepted power-up. Each has exactly one fate: taken out (read or sent),
+    -- cleared, overwritten or still held.": the ledger has these entries, in number order, each once
+    pub one-fate : numbered (ledger side ch told) ≡ acceptedBy side ch told
+    -- "Each entry taken out is as it was accepted (on sending, its parity bit aside), in number order."
+    pub as-accepted : Every (λ d. AsAccepted side (d .accepted .entry) (d .fate)) (ledger side ch told .departed)
+    -- "The held ones are the newest, and exactly these are in the FIFO, oldest first.": the ledger's last
+    pub held : fifoOf side (keptOf (block (run m calls) ch)) .held ≡ entries (ledger side ch told .held)
+    -- "The description's history gives it from the calls and their answers alone"
+    pub from-answers : Accounts (ledger side ch told) (fifoOf side (history told .kept ch)) (overwrittenOf side (history told .kept ch))
 
-  -- what holds of the list and the memory
-  pub record Theorem : Type 0 where
-    -- "each answer is the one the description gives", on the words lent "as the one before left" them
-    pub answers : (before : List (ℕ × Call)) (k : ℕ) (c : Call) (rest : List (ℕ × Call)) → calls ≡ before ++ (k, c) ∷ rest
-        → callsAndAnswers ≡ events before m ++ (c, answer c (take k (run before m))) ∷ events rest (run (before ++ (k, c) ∷ []) m)
-    -- "FIFO read: the oldest is taken out, and is the answer's entry." "Immediate or triggered step that gives a word: the oldest is taken out,
-    -- and is that word, D31 aside."
-    pub tells : AllTold callsAndAnswers start
-    -- "The oldest is never asked for with none held."
-    pub oldest : (side : Side) (ch : ℕ) → NeverEmpty side ch callsAndAnswers start
-    -- the stored stamp, settings, held entries and counts are the history's
-    pub agrees : Agrees historyAfter (run calls m)
-    -- "Each has exactly one fate": the entries of each FIFO of each channel
-    pub fifos : (side : Side) (ch : ℕ) → 1 ≤ ch → ch ≤ historyAfter .count
-        → Accounted side (ledger side ch callsAndAnswers) (givenOut side ch callsAndAnswers) (changeAt side ch callsAndAnswers) (historyAfter .kept ch)
-        (block (run calls m) ch)
+  -- what a call that reads channel ch after the list answers, lent n words: the counts, and how many are still held
+  pub record Read (ch n : ℕ) : Type 0 where
+    pub counts : answerBehind m calls n (On ch (Reads ReadCounts)) ≡ countsOf (ledger Receiving ch told) (ledger Transmitting ch told)
+    pub receive-level : answerBehind m calls n (On ch (Reads ReadReceiveLevel)) ≡ Value (length (ledger Receiving ch told .held))
+    pub transmit-level : answerBehind m calls n (On ch (Reads ReadTransmitLevel)) ≡ Value (length (ledger Transmitting ch told .held))
+
+  pub record Demand : Type 0 where
+    -- "each answer is the one the description gives": of every call of the list, by the history before it
+    pub answers : (later before : List (ℕ × Call)) (k : ℕ) (c : Call) → calls ≡ later ++ (k, c) ∷ before
+        → Answered (length (take k m)) c (answerBehind m before k c) (history (events m before))
+    -- "The oldest is never asked for with none held."; "and is the answer's entry"; "and is that word, D31 aside"
+    pub oldest : (later before : List (Call × Answer)) (e : Call × Answer) → told ≡ later ++ e ∷ before → (side : Side) (ch : ℕ)
+        → Fits side (changeBehind side ch before e) (fifoOf side (history before .kept ch))
+    -- "Each has exactly one fate"
+    pub fates : (side : Side) (ch : ℕ) → 1 ≤ ch → ch ≤ history told .count → OneFate side ch
+    -- "Accepted and fate counts equal the history's, modulo 4,294,967,296, also across module resets."
+    pub reads : (ch : ℕ) → 1 ≤ ch → ch ≤ history told .count → (n : ℕ) → need (history told .count) ≤ n → Read ch n
 
 -- "every list of calls on one module's memory", of which the first is an accepted power-up
 abbrev pub Demand3 : Type 0
-Demand3 = (calls : List (ℕ × Call)) (m : List ℕ) → Started calls m → Theorem calls m
+Demand3 = (m : List ℕ) (calls : List (ℕ × Call)) → Started m calls → Demand m calls

@@ -8,6 +8,7 @@ use Rattle.block.specs.Layout.{word}
 use Rattle.block.specs.Ranges.{allWithin, sound}
 use Rattle.block.specs.Refusals.{first}
 use Rattle.frame.specs.Layout.{count, moduleWords, most, need, block}
+use Rattle.frame.specs.Counters.{top}
 
 -- "1 short: memory is below the module part, or below the need of its stored channel count where that is 1 to 12";
 -- a count outside 1 to 12 is "2 unsound"
@@ -21,14 +22,24 @@ frameOf n k =
 abbrev pub frameRefusal : List ℕ → ℕ
 frameRefusal m = frameOf (length m) (word m count)
 
+-- the settings of the whole module: "stamp resolution, whole module | 0 to 3", "fault threshold, whole module | 1 to 65,535"
+abbrev pub mostResolution : ℕ
+mostResolution = 3
+
+abbrev pub leastThreshold : ℕ
+leastThreshold = 1
+
+abbrev pub mostThreshold : ℕ
+mostThreshold = 65535
+
 -- the ranges of the module part: count, stamp (any), resolution 0 to 3, fault threshold 1 to 65,535, "fault counters 0 to 65,536"
 unfoldable pub partLeasts : List ℕ
-partLeasts = 1 ∷ 0 ∷ 0 ∷ 1 ∷ 0 ∷ 0 ∷ 0 ∷ 0 ∷ 0 ∷ 0 ∷ 0 ∷ 0 ∷ 0 ∷ 0 ∷ 0 ∷ 0 ∷ []
+partLeasts = 1 ∷ 0 ∷ 0 ∷ leastThreshold ∷ 0 ∷ 0 ∷ 0 ∷ 0 ∷ 0 ∷ 0 ∷ 0 ∷ 0 ∷ 0 ∷ 0 ∷ 0 ∷ 0 ∷ []
 
 unfoldable pub partGreatests : List ℕ
 partGreatests =
-    12 ∷ 0xFFFF_FFFF ∷ 3 ∷ 65535
-    ∷ 65536 ∷ 65536 ∷ 65536 ∷ 65536 ∷ 65536 ∷ 65536 ∷ 65536 ∷ 65536 ∷ 65536 ∷ 65536 ∷ 65536 ∷ 65536 ∷ []
+    most ∷ 0xFFFF_FFFF ∷ mostResolution ∷ mostThreshold
+    ∷ top ∷ top ∷ top ∷ top ∷ top ∷ top ∷ top ∷ top ∷ top ∷ top ∷ top ∷ top ∷ []
 
 -- whether every word of the module part is in its range
 abbrev pub partSound : List ℕ → Bool

@@ -7,7 +7,7 @@ ghost use Rattle.frame.specs.Layout.{moduleWords, most};
 ghost use Rattle.frame.specs.Counters.{sampled, countersOf, sampledAt};
 
 // Where a counter stops.
-const TOP: u32 = 65536;
+pub const TOP: u32 = 65536;
 
 // A counter after a sample: 0 good, else failing.
 fn sampled(result: u32, counter: u32) -> u32

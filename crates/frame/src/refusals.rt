@@ -1,4 +1,5 @@
 // When a module's memory is refused: 1 short, 2 unsound, 3 channel, or 0 for none.
+use crate::counters::TOP;
 use crate::layout::COUNT;
 use crate::layout::MODULE_WORDS;
 use crate::layout::MOST;
@@ -10,25 +11,32 @@ ghost use Rattle.block.specs.Ranges.{within};
 ghost use Rattle.frame.specs.Layout.{moduleWords};
 ghost use Rattle.frame.specs.Refusals.{frameRefusal, partLeasts, partGreatests, partSound, partRefusal, addressRefusal};
 
-const LEAST: [u32; 16] = [1, 0, 0, 1, 0, 0, 0, 0, 0, 0, 0, 0, 0, 0, 0, 0];
+// The ranges of the module part's settings.
+pub const RESOLUTION_GREATEST: u32 = 3;
+
+pub const THRESHOLD_LEAST: u32 = 1;
+
+pub const THRESHOLD_GREATEST: u32 = 65535;
+
+const LEAST: [u32; 16] = [1, 0, 0, THRESHOLD_LEAST, 0, 0, 0, 0, 0, 0, 0, 0, 0, 0, 0, 0];
 
 const GREATEST: [u32; 16] = [
-    12,
+    MOST,
     0xFFFF_FFFF,
-    3,
-    65535,
-    65536,
-    65536,
-    65536,
-    65536,
-    65536,
-    65536,
-    65536,
-    65536,
-    65536,
-    65536,
-    65536,
-    65536,
+    RESOLUTION_GREATEST,
+    THRESHOLD_GREATEST,
+    TOP,
+    TOP,
+    TOP,
+    TOP,
+    TOP,
+    TOP,
+    TOP,
+    TOP,
+    TOP,
+    TOP,
+    TOP,
+    TOP,
 ];
 
 // The refusal of memory that is too short, or whose stored count is outside 1 to 12.

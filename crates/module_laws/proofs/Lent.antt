@@ -18,7 +18,7 @@ use Rattle.channel.specs.Channel.{blockAnswer, blockAfter}
 use Rattle.channel_calls.specs.declared.calls.Answer.{Answer}
 use Rattle.channel_calls.specs.declared.calls.Answer.the-variants.{Done, Refused, Value}
 use Rattle.channel_calls.specs.declared.calls.ChannelCall.{ChannelCall}
-use Rattle.channel_laws.specs.Kept.{keptOf, keptFirst}
+use Rattle.block.specs.Kept.{keptOf, keptFirst}
 use Rattle.channel_laws.proofs.Resets.{first-holds}
 use Rattle.frame.specs.Layout.{count, stamp, resolution, threshold, moduleWords, most, need, base, block, withBlock, Framed}
 use Rattle.frame.specs.Each.{eachTo}
@@ -117,7 +117,7 @@ leave-by {x} {y} l r p q e h = go (eqb x 0) refl ∙ ap (λ (n : ℕ). leaveUnle
 -- ---- enough words, a call on a channel
 
 -- on a sane memory the channel's number decides, then the call
-sane-on : {m : List ℕ} → Sane m → (ch : ℕ) (k : ChannelCall) (t u : Bool) → ltb ch 1 ≡ t → ltb (word m count) ch ≡ u
+pub sane-on : {m : List ℕ} → Sane m → (ch : ℕ) (k : ChannelCall) (t u : Bool) → ltb ch 1 ≡ t → ltb (word m count) ch ≡ u
     → onRefusal ch k m ≡ cond t 3 (cond u 3 (channelRefusal k (block m ch)))
 unfolding onRefusal channelOf
 sane-on s ch k true u p q = rw (sane-part s, p) refl

@@ -12,10 +12,10 @@ use Rattle.block.specs.Layout.{word, latch}
 use Rattle.block.specs.Ranges.{Usable}
 use Rattle.block.proofs.Sound.{is-within}
 use Rattle.status.proofs.Keeps.{rule-keeps}
-use Rattle.channel_laws.specs.Kept.{keptOf}
+use Rattle.block.specs.Kept.{keptOf}
 use Rattle.channel_laws.proofs.Holds.{store-kept}
 use Rattle.frame.specs.Layout.{count, stamp, resolution, threshold, moduleWords, block}
-use Rattle.frame.specs.Refusals.{partLeasts, partGreatests, wideRefusal}
+use Rattle.frame.specs.Refusals.{mostResolution, leastThreshold, mostThreshold, partLeasts, partGreatests, wideRefusal}
 use Rattle.block.proofs.Refusals.{past, neither}
 use Rattle.frame.proofs.Blocks.{block-set}
 use Rattle.frame.proofs.Each.{each-word, each-block}
@@ -89,9 +89,9 @@ left (AdvanceStamp n) {m} s e =
     (is-within partLeasts partGreatests stamp (counted (word m stamp) n) zero-le (omega arith))
 left ZeroStamp s e = writes s stamp 0 (omega arith) (omega arith) refl
 left ReadStamp s e = reads s
-left (WriteResolution v) s e = writes s resolution v (omega arith) (omega arith) (argument resolution 0 3 v refl refl e)
+left (WriteResolution v) s e = writes s resolution v (omega arith) (omega arith) (argument resolution 0 mostResolution v refl refl e)
 left ReadResolution s e = reads s
-left (WriteThreshold v) s e = writes s threshold v (omega arith) (omega arith) (argument threshold 1 65535 v refl refl e)
+left (WriteThreshold v) s e = writes s threshold v (omega arith) (omega arith) (argument threshold leastThreshold mostThreshold v refl refl e)
 left ReadThreshold s e = reads s
 
 module _ {m : List ℕ} (s : Sane m) (k : WideCall) (e : callRefusal k m ≡ 0) where

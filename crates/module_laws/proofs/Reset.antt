@@ -8,7 +8,8 @@ use Rattle.block.specs.Layout.{word}
 use Rattle.block.specs.Counts.{counted}
 use Rattle.block.specs.Ranges.{Usable}
 use Rattle.block.proofs.Sound.{each-in}
-use Rattle.channel_laws.specs.Kept.{keptOf, keptReset}
+use Rattle.block.specs.Kept.{keptOf, keptBy}
+use Rattle.channel_laws.specs.Effects.{resetEffect}
 use Rattle.channel_laws.proofs.Resets.{reset-left}
 use Rattle.frame.specs.Layout.{count, moduleWords, block}
 use Rattle.frame.specs.Refusals.{partLeasts, partGreatests}
@@ -24,7 +25,7 @@ module _ {m : List ℕ} (s : Sane m) where
   reset-word i h = laws.reset-word m i h
 
   -- "all FIFOs cleared .., settings to factory": each channel, its cleared entries counted
-  pub reset-kept : (ch : ℕ) → 1 ≤ ch → ch ≤ word m count → keptOf (block (moduleReset m) ch) ≡ keptReset counted (keptOf (block m ch))
+  pub reset-kept : (ch : ℕ) → 1 ≤ ch → ch ≤ word m count → keptOf (block (moduleReset m) ch) ≡ keptBy counted resetEffect (keptOf (block m ch))
   reset-kept ch l h = ap keptOf (laws.reset-block m (s .frame) ch l h) ∙ reset-left (s .usable ch l h) .is
 
   pub reset-sane : Sane (moduleReset m)

@@ -7,9 +7,7 @@ use native.Mathlib.Omega.{arith}
 use lib.ListN.{length}
 use Rattle.block.specs.Counts.{rolled, counted}
 use Rattle.block.specs.Fifos.{Fifo, accepts, gives, overwrites, Change, Stays, Adds, Overwrites, Takes, Clears, Begins, changed, overwrittenAfter}
-use Rattle.channel_calls.specs.declared.calls.ChannelCall.{ChannelCall}
-use Rattle.channel_calls.specs.declared.calls.Answer.{Answer}
-use Rattle.channel_laws.specs.Kept.{Kept, receiveChange, transmitChange, keptAfter, keptReset, keptFirst}
+use Rattle.block.specs.Kept.{Kept, Effect, keptBy}
 use Rattle.channel_laws.proofs.Holds.{parts}
 use Rattle.module_laws.specs.Reduced.{reducedFifo, reduced}
 
@@ -21,7 +19,7 @@ fifo-rolls : (c : Change) (f : Fifo) → reducedFifo (changed _+_ c f) ≡ chang
 fifo-rolls Stays f = refl
 fifo-rolls (Adds e) f = λ i. record { held = accepts _+_ f e .held; accepted = roll (f .accepted) 1 i; taken = rolled (f .taken); cleared = rolled (f .cleared) }
 fifo-rolls (Overwrites e) f = λ i. record { held = overwrites _+_ f e .held; accepted = roll (f .accepted) 1 i; taken = rolled (f .taken); cleared = rolled (f .cleared) }
-fifo-rolls Takes f = λ i. record { held = gives _+_ f .held; accepted = rolled (f .accepted); taken = roll (f .taken) 1 i; cleared = rolled (f .cleared) }
+fifo-rolls (Takes e) f = λ i. record { held = gives _+_ f .held; accepted = rolled (f .accepted); taken = roll (f .taken) 1 i; cleared = rolled (f .cleared) }
 fifo-rolls Clears f = λ i. record { held = []; accepted = rolled (f .accepted); taken = rolled (f .taken); cleared = roll (f .cleared) (length (f .held)) i }
 fifo-rolls Begins f = refl
 
@@ -29,18 +27,10 @@ overwritten-rolls : (c : Change) (n : ℕ) → rolled (overwrittenAfter _+_ c n)
 overwritten-rolls Stays n = refl
 overwritten-rolls (Adds e) n = refl
 overwritten-rolls (Overwrites e) n = roll n 1
-overwritten-rolls Takes n = refl
+overwritten-rolls (Takes e) n = refl
 overwritten-rolls Clears n = refl
 overwritten-rolls Begins n = refl
 
--- every count of a channel, after an accepted call, after a module reset and at power-up
-pub rolls : (s : ℕ) (k : ChannelCall) (a : Answer) (h : Kept) → reduced (keptAfter _+_ s k a h) ≡ keptAfter counted s k a (reduced h)
-rolls s k a h =
-    let r : Change = receiveChange s k a (h .settings) in
-    parts refl (fifo-rolls r (h .receive)) (overwritten-rolls r (h .overwritten)) (fifo-rolls (transmitChange k a) (h .transmit))
-
-pub reset-rolls : (h : Kept) → reduced (keptReset _+_ h) ≡ keptReset counted (reduced h)
-reset-rolls h = parts refl (fifo-rolls Clears (h .receive)) refl (fifo-rolls Clears (h .transmit))
-
-pub first-rolls : reduced keptFirst ≡ keptFirst
-first-rolls = refl
+-- every count of a channel, whatever was done to it
+pub rolls : (e : Effect) (h : Kept) → reduced (keptBy _+_ e h) ≡ keptBy counted e (reduced h)
+rolls e h = parts refl (fifo-rolls (e .receive) (h .receive)) (overwritten-rolls (e .receive) (h .overwritten)) (fifo-rolls (e .transmit) (h .transmit))

@@ -7,7 +7,7 @@ use mathlib.Core.List.{List, [], _∷_}
 use Prim.Native.Nat.{ℕ, _+_, _-_, _%_, _^_, _≤_, _<_, zero-le}
 use native.Mathlib.Nat.{mod-lt}
 use native.Mathlib.Omega.{arith}
-use borrow.Author.Tests.{eqb-false}
+use borrow.Author.Tests.{eqb-true, eqb-false}
 use lib.Dec.{eqb}
 use lib.ListN.{set, drop}
 use lib.Seq.{getD-set-other}
@@ -27,7 +27,7 @@ use Rattle.schedule.specs.declared.Output.{Output}
 use Rattle.schedule.specs.declared.Output.the-variants.{Quiet, FifoWord}
 use Rattle.schedule.proofs.Laws.{step-state, step-address, step-waiting, no-fifo-word}
 use Rattle.transmit.specs.Writes.{HasRoom, fifoWritten, asyncWritten}
-use Rattle.block.specs.Modes.{immediate, triggered}
+use Rattle.block.specs.Modes.{immediate, triggered, scheduled}
 use Rattle.transmit.specs.States.{afterTrigger, afterPause}
 use Rattle.transmit.specs.Step.{oldestWord, sendOutput, sendAfter, immediateOutput, immediateAfter, triggeredOutput, triggeredAfter, place, command, message, scheduledOutcome, scheduledAfter, stepOutput, stepAfter}
 
@@ -229,3 +229,11 @@ module _ {b : List ℕ} (u : Usable b) where
 
   pub step-sends : isFifoWord (stepOutput b) ≡ true → Sends b (stepOutput b)
   step-sends s = steps .sends s
+
+-- in scheduled mode a step gives no word of the FIFO
+pub scheduled-gives-none : (b : List ℕ) → eqb (word b transmitMode) scheduled ≡ true → isFifoWord (stepOutput b) ≡ false
+unfolding stepOutput scheduledOutcome
+scheduled-gives-none b e =
+    rw (eqb-true (word b transmitMode) scheduled e)
+    (cases (λ (o : Output). isFifoWord o ≡ false) (eqb (word b transmitter) 0) refl
+    (no-fifo-word (place b) (word b parity) (command b) (message b)))

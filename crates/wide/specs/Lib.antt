@@ -1,3 +1,4 @@
 pub mod Refusals
 pub mod Rule
 pub mod OnModule
+pub mod Part

@@ -4,7 +4,7 @@ use mathlib.Core.List.{List}
 use mathlib.Core.Bool.{cond}
 use lib.Dec.{ltb}
 use Rattle.block.specs.Refusals.{first}
-use Rattle.frame.specs.Refusals.{wideRefusal}
+use Rattle.frame.specs.Refusals.{mostResolution, leastThreshold, mostThreshold, wideRefusal}
 use Rattle.wide.specs.declared.calls.WideCall.{WideCall}
 use Rattle.wide.specs.declared.calls.WideCall.the-variants.{AdvanceStamp, ZeroStamp, ReadStamp, WriteResolution, ReadResolution, WriteThreshold, ReadThreshold}
 
@@ -17,9 +17,9 @@ abbrev pub wideCallRefusal : WideCall → ℕ
 wideCallRefusal (AdvanceStamp n) = 0
 wideCallRefusal ZeroStamp = 0
 wideCallRefusal ReadStamp = 0
-wideCallRefusal (WriteResolution x) = rangeRefusal 0 3 x
+wideCallRefusal (WriteResolution x) = rangeRefusal 0 mostResolution x
 wideCallRefusal ReadResolution = 0
-wideCallRefusal (WriteThreshold x) = rangeRefusal 1 65535 x
+wideCallRefusal (WriteThreshold x) = rangeRefusal leastThreshold mostThreshold x
 wideCallRefusal ReadThreshold = 0
 
 -- "Tested in number order; the first that applies is given": the memory, then the call

@@ -3,6 +3,9 @@ use crate::calls::WideCall;
 use block::layout::WORDS;
 use frame::layout::COUNT;
 use frame::layout::MODULE_WORDS;
+use frame::refusals::RESOLUTION_GREATEST;
+use frame::refusals::THRESHOLD_GREATEST;
+use frame::refusals::THRESHOLD_LEAST;
 ghost use mathlib.Core.Path.{_≡_};
 ghost use Prim.Native.Nat.{_≤_};
 ghost use lib.ListN.{length};
@@ -11,13 +14,6 @@ ghost use Rattle.block.specs.Ranges.{sound};
 ghost use Rattle.frame.specs.Layout.{count, Framed, block};
 ghost use Rattle.frame.specs.Refusals.{soundTo, wideRefusal};
 ghost use Rattle.wide.specs.Refusals.{rangeRefusal, wideCallRefusal};
-
-// The ranges of the module part's settings.
-const RESOLUTION_GREATEST: u32 = 3;
-
-const THRESHOLD_LEAST: u32 = 1;
-
-const THRESHOLD_GREATEST: u32 = 65535;
 
 // Whether a channel's block is sound.
 fn is_channel_sound(mem: &[u32], channel: u32) -> bool

@@ -1,0 +1,130 @@
+-- Every answer to a call on a sound channel is what a history tells that keeps what the channel's block holds.
+-- Assumes nothing.
+use mathlib.Core.Path.{_≡_, refl, sym, ap, _∙_}
+use mathlib.Core.Bool.{Bool, true, false, cond, true≢false}
+use mathlib.Core.List.{List}
+use Prim.Native.Nat.{ℕ, _<_}
+use native.Mathlib.Omega.{arith}
+use borrow.Author.Tests.{eqb-false}
+use lib.Dec.{eqb}
+use lib.ListN.{length}
+use lib.Seq.{getD-take}
+use Rattle.word.specs.Word.{index}
+use Rattle.word.specs.Parity.{asSent}
+use Rattle.ring.proofs.Laws.{length-held}
+use Rattle.block.specs.Layout.{word, settings, receiver, transmitter, parity, matching, fifoKind, transmitMode, receiveSize, rate, receiveLevel}
+use Rattle.block.specs.Modes.{scheduled}
+use Rattle.block.specs.Ranges.{Usable}
+use Rattle.block.specs.Settings.{settingRefusal}
+use Rattle.block.specs.Fifos.{Offsets, receiveOffsets, transmitOffsets, fifo}
+use Rattle.block.specs.Matching.{matched}
+use Rattle.block.specs.Kept.{keptOf}
+use Rattle.schedule.specs.Output.{isFifoWord}
+use Rattle.schedule.specs.declared.Output.the-variants.{FifoWord}
+use Rattle.receive.specs.Arrival.{filtered, arrival}
+use Rattle.receive.specs.Reading.{shown}
+use Rattle.receive.proofs.Bounds.{bounds, full}
+use Rattle.receive.proofs.Laws.{read-answer}
+use Rattle.transmit.specs.Step.{oldestWord, stepOutput}
+use Rattle.transmit.proofs.Laws.{Sends, step-sends, scheduled-gives-none}
+use Rattle.channel_calls.specs.Answers.{settingNumber, answerUnless}
+use Rattle.channel_calls.specs.Refusals.{receiveCallRefusal, channelRefusal}
+use Rattle.channel_calls.proofs.Accepted.{setting-in}
+use Rattle.channel_calls.proofs.Exact.{read-refusal, write-refusal, trigger-refusal}
+use Rattle.channel_calls.specs.declared.calls.SettingCall.the-variants.{WriteSetting, ReadSetting}
+use Rattle.channel_calls.specs.declared.calls.ReadCall.the-variants.{ReadCounts, ReadReceiveLevel, ReadTransmitLevel, ReadAsync}
+use Rattle.channel_calls.specs.declared.calls.ReceiveCall.the-variants.{Arrive, ReadFifo, ReadMailbox}
+use Rattle.channel_calls.specs.declared.calls.TransmitCall.the-variants.{WriteFifo, WriteAsync, Trigger, Pause, Stop, Step}
+use Rattle.channel_calls.specs.declared.calls.ChannelCall.{ChannelCall}
+use Rattle.channel_calls.specs.declared.calls.ChannelCall.the-variants.{Settings, Memories, Status, Tests, Reads, Receive, Transmit}
+use Rattle.channel_calls.specs.declared.calls.Given.{Given}
+use Rattle.channel_calls.specs.declared.calls.Answer.the-variants.{Value, Arrived, Stepped}
+use Rattle.channel.specs.Groups.{entryAnswer, receiveAnswer}
+use Rattle.channel.specs.Channel.{blockAnswer}
+use Rattle.channel.specs.Told.{oldestOf, outcomeBy, ArrivalTold, WordTold, Told}
+
+-- a FIFO holds as many entries as its level says
+level-held : (p : Offsets) (b : List ℕ) → length (fifo p b .held) ≡ word b (p .level)
+level-held p b = length-held (p .ring) b (word b (p .position)) (word b (p .level))
+
+-- a setting that is kept is the block's
+setting-kept : (b : List ℕ) (i : ℕ) → i < settings → word (keptOf b .settings) i ≡ word b i
+setting-kept b i h = getD-take settings b i 0 h
+
+-- filtered with match on alone
+by-match : (w : ℕ) (b : List ℕ) → filtered w b ≡ true → eqb (word b matching) 0 ≡ false
+unfolding filtered
+by-match w b e = go (eqb (word b matching) 0) e
+  where
+    go : (t : Bool) → cond t false (eqb (matched (index w) b) 0) ≡ true → t ≡ false
+    go true z = absurd (true≢false (sym z))
+    go false z = refl
+
+module _ (b : List ℕ) where
+  outcome-is : (w : ℕ) → arrival w b ≡ outcomeBy (keptOf b) (filtered w b)
+  unfolding arrival
+  outcome-is w =
+      rw (setting-kept b receiver (omega arith), setting-kept b receiveSize (omega arith), setting-kept b fifoKind (omega arith), level-held receiveOffsets b)
+      refl
+
+  arrival-told : Usable b → (w : ℕ) → ArrivalTold (keptOf b) (Arrived (arrival w b))
+  arrival-told u w =
+      record {
+        filtered = filtered w b;
+        by-match = λ e. rw (setting-kept b matching (omega arith)) (by-match w b e);
+        answer = ap Arrived (outcome-is w);
+        some = λ e. omega (arith, level-held receiveOffsets b, full w b (outcome-is w ∙ e), bounds u);
+      }
+
+  -- "receive FIFO read with none held": else the oldest entry, where the two low bits of its status are all of it
+  read-told : shown (oldestOf (fifo receiveOffsets b)) ≡ oldestOf (fifo receiveOffsets b)
+      → answerUnless (receiveCallRefusal ReadFifo b) (receiveAnswer ReadFifo b)
+      ≡ answerUnless (cond (eqb (length (fifo receiveOffsets b .held)) 0) 7 0) (entryAnswer (oldestOf (fifo receiveOffsets b)))
+  read-told r = rw (read-refusal b, level-held receiveOffsets b) (go (eqb (word b receiveLevel) 0) refl)
+    where
+      go : (t : Bool) → eqb (word b receiveLevel) 0 ≡ t
+          → answerUnless (cond t 7 0) (receiveAnswer ReadFifo b) ≡ answerUnless (cond t 7 0) (entryAnswer (oldestOf (fifo receiveOffsets b)))
+      go true e = refl
+      go false e =
+          let some : 0 < word b receiveLevel = omega (arith, eqb-false (word b receiveLevel) 0 e) in
+          ap entryAnswer (read-answer b some ∙ r)
+
+  step-told : Usable b → (w gap : ℕ) → Stepped (stepOutput b) ≡ Stepped (FifoWord w gap) → WordTold (keptOf b) w gap
+  step-told u w gap e =
+      let o : stepOutput b ≡ FifoWord w gap = cc in
+      let s : Sends b (stepOutput b) = step-sends u (ap isFifoWord o) in
+      let w-is : w ≡ asSent (word b parity) (oldestWord b) = cc (s .output) in
+      let gap-is : gap ≡ word b rate = cc (s .output) in
+      record {
+        mode = rw (setting-kept b transmitMode (omega arith)) (go (eqb (word b transmitMode) scheduled) refl (ap isFifoWord o));
+        oldest = oldestWord b;
+        first = s .oldest;
+        is-word = rw (setting-kept b parity (omega arith)) w-is;
+        is-gap = rw (setting-kept b rate (omega arith)) gap-is;
+      }
+    where
+      go : (t : Bool) → eqb (word b transmitMode) scheduled ≡ t → isFifoWord (stepOutput b) ≡ true → t ≡ false
+      go true p q = absurd (true≢false (sym q ∙ scheduled-gives-none b p))
+      go false p q = refl
+
+  pub told : (g : Given) (k : ChannelCall) → Usable b → shown (oldestOf (fifo receiveOffsets b)) ≡ oldestOf (fifo receiveOffsets b)
+      → Told (keptOf b) k (answerUnless (channelRefusal k b) (blockAnswer g k b))
+  unfolding settingRefusal
+  told g (Settings (WriteSetting s v)) u r = rw (level-held receiveOffsets b) refl
+  told g (Settings (ReadSetting s)) u r = ap Value (sym (setting-kept b (settingNumber s) (setting-in s)))
+  told g (Memories k) u r = tt
+  told g (Status k) u r = tt
+  told g (Tests k) u r = tt
+  told g (Reads ReadCounts) u r = refl
+  told g (Reads ReadReceiveLevel) u r = ap Value (sym (level-held receiveOffsets b))
+  told g (Reads ReadTransmitLevel) u r = ap Value (sym (level-held transmitOffsets b))
+  told g (Reads ReadAsync) u r = tt
+  told g (Receive (Arrive w)) u r = arrival-told u w
+  told g (Receive ReadFifo) u r = read-told r
+  told g (Receive (ReadMailbox i)) u r = tt
+  told g (Transmit (WriteFifo w)) u r = rw (write-refusal w u, level-held transmitOffsets b) refl
+  told g (Transmit (WriteAsync w)) u r = tt
+  told g (Transmit Trigger) u r = rw (trigger-refusal b, setting-kept b transmitter (omega arith)) refl
+  told g (Transmit Pause) u r = refl
+  told g (Transmit Stop) u r = refl
+  told g (Transmit Step) u r = step-told u
