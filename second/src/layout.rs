@@ -1,58 +1,66 @@
 //! Where each number stands in the lent words (docs/MEMORY.md).
 
 /// Words of the module part.
-pub const MODULE_WORDS: usize = 16;
+pub const MODULE_WORDS: usize = COUNTERS + CHANNELS as usize;
 /// Words of a channel's block.
-pub const BLOCK_WORDS: usize = 4666;
+pub const BLOCK_WORDS: usize = SCHEDULE_RAM + COMMANDS;
 /// The most channels a module has.
 pub const CHANNELS: u32 = 12;
 /// Slots of each FIFO ring.
 pub const SLOTS: usize = 255;
+/// SDI/Label indexes: mailboxes, and bits of the match set.
+pub const INDEXES: usize = 1024;
+/// Words of the message RAM.
+pub const MESSAGES: usize = 256;
+/// Words of the schedule RAM.
+pub const COMMANDS: usize = 256;
+/// Words of a block with a range, from its first.
+pub const RANGED: usize = LEVEL_MASK + 1;
 
 // The module part.
 pub const COUNT: usize = 0;
-pub const STAMP: usize = 1;
-pub const RESOLUTION: usize = 2;
-pub const THRESHOLD: usize = 3;
-pub const COUNTERS: usize = 4;
+pub const STAMP: usize = COUNT + 1;
+pub const RESOLUTION: usize = STAMP + 1;
+pub const THRESHOLD: usize = RESOLUTION + 1;
+pub const COUNTERS: usize = THRESHOLD + 1;
 
 // A channel's block; words 0 to 11 are the settings, by number.
 pub const RECEIVER: usize = 0;
-pub const TRANSMITTER: usize = 1;
-pub const PARITY: usize = 2;
-pub const MATCH: usize = 3;
-pub const STAMPS: usize = 4;
-pub const RECEIVE_MODE: usize = 5;
-pub const FIFO_KIND: usize = 6;
-pub const TRANSMIT_MODE: usize = 7;
-pub const SIZE: usize = 8;
-pub const ALMOST_FULL: usize = 9;
-pub const ALMOST_EMPTY: usize = 10;
-pub const RATE: usize = 11;
-pub const RECEIVE_LEVEL: usize = 12;
-pub const RECEIVE_POSITION: usize = 13;
-pub const TRANSMIT_LEVEL: usize = 14;
-pub const TRANSMIT_POSITION: usize = 15;
-pub const STATE: usize = 16;
-pub const COMMAND: usize = 17;
-pub const ASYNC_MARK: usize = 18;
-pub const LATCH: usize = 19;
-pub const ENABLE: usize = 20;
-pub const LEVEL_MASK: usize = 21;
-pub const ASYNC_WORD: usize = 22;
-pub const RECEIVE_ACCEPTED: usize = 23;
-pub const RECEIVE_READ: usize = 24;
-pub const RECEIVE_CLEARED: usize = 25;
-pub const RECEIVE_OVERWRITTEN: usize = 26;
-pub const TRANSMIT_ACCEPTED: usize = 27;
-pub const TRANSMIT_SENT: usize = 28;
-pub const TRANSMIT_CLEARED: usize = 29;
-pub const RECEIVE_RING: usize = 30;
-pub const TRANSMIT_RING: usize = 795;
-pub const MAILBOXES: usize = 1050;
-pub const MATCH_SET: usize = 4122;
-pub const MESSAGE_RAM: usize = 4154;
-pub const SCHEDULE_RAM: usize = 4410;
+pub const TRANSMITTER: usize = RECEIVER + 1;
+pub const PARITY: usize = TRANSMITTER + 1;
+pub const MATCH: usize = PARITY + 1;
+pub const STAMPS: usize = MATCH + 1;
+pub const RECEIVE_MODE: usize = STAMPS + 1;
+pub const FIFO_KIND: usize = RECEIVE_MODE + 1;
+pub const TRANSMIT_MODE: usize = FIFO_KIND + 1;
+pub const SIZE: usize = TRANSMIT_MODE + 1;
+pub const ALMOST_FULL: usize = SIZE + 1;
+pub const ALMOST_EMPTY: usize = ALMOST_FULL + 1;
+pub const RATE: usize = ALMOST_EMPTY + 1;
+pub const RECEIVE_LEVEL: usize = RATE + 1;
+pub const RECEIVE_POSITION: usize = RECEIVE_LEVEL + 1;
+pub const TRANSMIT_LEVEL: usize = RECEIVE_POSITION + 1;
+pub const TRANSMIT_POSITION: usize = TRANSMIT_LEVEL + 1;
+pub const STATE: usize = TRANSMIT_POSITION + 1;
+pub const COMMAND: usize = STATE + 1;
+pub const ASYNC_MARK: usize = COMMAND + 1;
+pub const LATCH: usize = ASYNC_MARK + 1;
+pub const ENABLE: usize = LATCH + 1;
+pub const LEVEL_MASK: usize = ENABLE + 1;
+pub const ASYNC_WORD: usize = LEVEL_MASK + 1;
+pub const RECEIVE_ACCEPTED: usize = ASYNC_WORD + 1;
+pub const RECEIVE_READ: usize = RECEIVE_ACCEPTED + 1;
+pub const RECEIVE_CLEARED: usize = RECEIVE_READ + 1;
+pub const RECEIVE_OVERWRITTEN: usize = RECEIVE_CLEARED + 1;
+pub const TRANSMIT_ACCEPTED: usize = RECEIVE_OVERWRITTEN + 1;
+pub const TRANSMIT_SENT: usize = TRANSMIT_ACCEPTED + 1;
+pub const TRANSMIT_CLEARED: usize = TRANSMIT_SENT + 1;
+pub const RECEIVE_RING: usize = TRANSMIT_CLEARED + 1;
+pub const TRANSMIT_RING: usize = RECEIVE_RING + 3 * SLOTS;
+pub const MAILBOXES: usize = TRANSMIT_RING + SLOTS;
+pub const MATCH_SET: usize = MAILBOXES + 3 * INDEXES;
+pub const MESSAGE_RAM: usize = MATCH_SET + INDEXES / 32;
+pub const SCHEDULE_RAM: usize = MESSAGE_RAM + MESSAGES;
 
 /// Words that a module of `count` channels needs.
 pub fn need(count: u32) -> usize {
@@ -64,8 +72,8 @@ pub fn block(channel: u32) -> usize {
     MODULE_WORDS + (channel as usize - 1) * BLOCK_WORDS
 }
 
-/// Least and greatest value of the block's words 0 to 21.
-pub const RANGES: [(u32, u32); 22] = [
+/// Least and greatest value of the block's first words.
+pub const RANGES: [(u32, u32); RANGED] = [
     (0, 1),         // receiver
     (0, 1),         // transmitter
     (0, 1),         // parity

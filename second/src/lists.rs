@@ -113,8 +113,8 @@ const EDGES: [u32; 24] = [
 const GAPS: [u32; 14] = [0, 3, 4, 5, 36, 38, 39, 40, 41, 100, 1_048_574, 1_048_575, 1_048_576, 0xFFFF_FFFF];
 
 /// Ranges of the module part, word by word; the stamp may hold anything.
-const PART_RANGES: [(u32, u32); 16] = {
-    let mut ranges = [(0, 65_536); 16];
+const PART_RANGES: [(u32, u32); MODULE_WORDS] = {
+    let mut ranges = [(0, 65_536); MODULE_WORDS];
     ranges[COUNT] = (1, 12);
     ranges[STAMP] = (0, u32::MAX);
     ranges[RESOLUTION] = (0, 3);
@@ -185,7 +185,7 @@ pub fn list(seed: u64, calls: usize) -> List {
     };
     let words = match kind {
         Memory::Short => short_length(&mut dice),
-        Memory::Lent => need(count) + dice.one_of(&[0, 1, 16, 4665, 4666, 9332]) as usize,
+        Memory::Lent => need(count) + dice.one_of(&[0, 1, MODULE_WORDS as u32, BLOCK_WORDS as u32 - 1, BLOCK_WORDS as u32, 2 * BLOCK_WORDS as u32]) as usize,
         _ => need(count) + dice.one_of(&[0, 0, 1, 30]) as usize,
     };
     // Words of any content, or zeros, before power-up.
@@ -1033,7 +1033,7 @@ impl Writer {
         match self.dice.below(20) {
             // Within its range: states that a list alone reaches late.
             0..=2 => {
-                let word = self.dice.below(22);
+                let word = self.dice.below(RANGED as u32);
                 let (least, greatest) = RANGES[word as usize];
                 let near = self.dice.below(3);
                 let value = match self.dice.below(3) {
@@ -1101,11 +1101,11 @@ impl Writer {
     fn outside_its_range(&mut self, channel: u32) {
         let in_block = self.dice.chance(70);
         let (place, range) = if in_block {
-            let word = self.dice.below(22) as usize;
+            let word = self.dice.below(RANGED as u32) as usize;
             (block(channel) + word, RANGES[word])
         } else {
             // Twelve of the sixteen words are counters.
-            let word = if self.dice.chance(70) { self.dice.below(4) } else { self.dice.below(16) } as usize;
+            let word = if self.dice.chance(70) { self.dice.below(4) } else { self.dice.below(MODULE_WORDS as u32) } as usize;
             (word, PART_RANGES[word])
         };
         let value = match self.dice.below(10) {

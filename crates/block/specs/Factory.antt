@@ -3,12 +3,13 @@ use Prim.Native.Nat.{ℕ, _-_}
 use mathlib.Core.List.{List, [], _∷_, _++_}
 use lib.ListN.{replicate, set}
 use lib.Seq.{sets}
+use Rattle.ring.specs.Ring.{slots}
 use Rattle.block.specs.Layout.{settings, receiver, parity, receiveSize}
 use Rattle.block.specs.Modes.{fifoMode, bounded, immediate}
 
 -- the table's column "Factory": size, almost full and almost empty threshold, rate
 abbrev pub factoryNumbers : List ℕ
-factoryNumbers = 255 ∷ 128 ∷ 32 ∷ 4 ∷ []
+factoryNumbers = slots ∷ 128 ∷ 32 ∷ 4 ∷ []
 
 -- "Factory: receiver, transmitter, match and stamps off, parity on, FIFO mode, bounded, immediate", and the numbers
 abbrev pub factorySettings : List ℕ

@@ -1,10 +1,11 @@
 -- Where each word of a channel's block stands (paper 01, "Memory and answer numbers"; docs/MEMORY.md).
--- The numbers with a range come first, so that one table of ranges serves them all.
-use Prim.Native.Nat.{ℕ}
+-- The numbers with a range come first, so that one table of ranges serves them all: an offset is the one before it and its size.
+use Prim.Native.Nat.{ℕ, _+_, _-_, _*_, _/_}
 use mathlib.Core.List.{List}
 use mathlib.Core.Path.{_≡_}
 use lib.ListN.{getD, length}
-use Rattle.ring.specs.Ring.{Ring, triples, singles}
+use Rattle.ring.specs.Ring.{Ring, end, triples, singles}
+use Rattle.schedule.specs.Codes.{messages, commands}
 
 -- a word of a block
 abbrev pub word : List ℕ → ℕ → ℕ
@@ -15,111 +16,111 @@ abbrev pub receiver : ℕ
 receiver = 0
 
 abbrev pub transmitter : ℕ
-transmitter = 1
+transmitter = receiver + 1
 
 abbrev pub parity : ℕ
-parity = 2
+parity = transmitter + 1
 
 abbrev pub matching : ℕ
-matching = 3
+matching = parity + 1
 
 abbrev pub stamps : ℕ
-stamps = 4
+stamps = matching + 1
 
 abbrev pub receiveMode : ℕ
-receiveMode = 5
+receiveMode = stamps + 1
 
 abbrev pub fifoKind : ℕ
-fifoKind = 6
+fifoKind = receiveMode + 1
 
 abbrev pub transmitMode : ℕ
-transmitMode = 7
+transmitMode = fifoKind + 1
 
 abbrev pub receiveSize : ℕ
-receiveSize = 8
+receiveSize = transmitMode + 1
 
 abbrev pub almostFull : ℕ
-almostFull = 9
+almostFull = receiveSize + 1
 
 abbrev pub almostEmpty : ℕ
-almostEmpty = 10
+almostEmpty = almostFull + 1
 
 abbrev pub rate : ℕ
-rate = 11
+rate = almostEmpty + 1
 
 -- how many settings there are
 abbrev pub settings : ℕ
-settings = 12
+settings = rate + 1
 
 -- both FIFOs: how many entries are held, and the slot of the oldest
 abbrev pub receiveLevel : ℕ
-receiveLevel = 12
+receiveLevel = settings
 
 abbrev pub receivePosition : ℕ
-receivePosition = 13
+receivePosition = receiveLevel + 1
 
 abbrev pub transmitLevel : ℕ
-transmitLevel = 14
+transmitLevel = receivePosition + 1
 
 abbrev pub transmitPosition : ℕ
-transmitPosition = 15
+transmitPosition = transmitLevel + 1
 
 -- "States: idle, running, paused", "command address" and "the async mark"
 abbrev pub state : ℕ
-state = 16
+state = transmitPosition + 1
 
 abbrev pub address : ℕ
-address = 17
+address = state + 1
 
 abbrev pub asyncMark : ℕ
-asyncMark = 18
+asyncMark = address + 1
 
 -- "latch, enable and level masks"
 abbrev pub latch : ℕ
-latch = 19
+latch = asyncMark + 1
 
 abbrev pub enable : ℕ
-enable = 20
+enable = latch + 1
 
 abbrev pub levelMask : ℕ
-levelMask = 21
+levelMask = enable + 1
 
 -- how many words have a range: those above
 abbrev pub ranged : ℕ
-ranged = 22
+ranged = levelMask + 1
 
 -- the async word, which is waiting where its mark is 1
 abbrev pub asyncWord : ℕ
-asyncWord = 22
+asyncWord = ranged
 
 -- "Receive FIFO: accepted, read, cleared, overwritten. Transmit FIFO: accepted, sent, cleared."
 abbrev pub receiveAccepted : ℕ
-receiveAccepted = 23
+receiveAccepted = asyncWord + 1
 
 abbrev pub receiveRead : ℕ
-receiveRead = 24
+receiveRead = receiveAccepted + 1
 
 abbrev pub receiveCleared : ℕ
-receiveCleared = 25
+receiveCleared = receiveRead + 1
 
 abbrev pub receiveOverwritten : ℕ
-receiveOverwritten = 26
+receiveOverwritten = receiveCleared + 1
 
 abbrev pub transmitAccepted : ℕ
-transmitAccepted = 27
+transmitAccepted = receiveOverwritten + 1
 
 abbrev pub transmitSent : ℕ
-transmitSent = 28
+transmitSent = transmitAccepted + 1
 
 abbrev pub transmitCleared : ℕ
-transmitCleared = 29
+transmitCleared = transmitSent + 1
 
 -- the rings of both FIFOs
 abbrev pub receiveRingAt : ℕ
-receiveRingAt = 30
+receiveRingAt = transmitCleared + 1
 
 abbrev pub transmitRingAt : ℕ
-transmitRingAt = 795
+transmitRingAt = end (triples receiveRingAt)
 
 abbrev pub receiveRing : Ring
 receiveRing = triples receiveRingAt
@@ -127,22 +128,29 @@ receiveRing = triples receiveRingAt
 abbrev pub transmitRing : Ring
 transmitRing = singles transmitRingAt
 
+-- "a match index 0 to 1023": the SDI/Label indexes
+abbrev pub indexes : ℕ
+indexes = 1024
+
+abbrev pub lastIndex : ℕ
+lastIndex = indexes - 1
+
 -- 1,024 mailboxes of three words, the match set of 1,024 bits, the message RAM and the schedule RAM
 abbrev pub mailboxes : ℕ
-mailboxes = 1050
+mailboxes = end (singles transmitRingAt)
 
 abbrev pub matchSet : ℕ
-matchSet = 4122
+matchSet = mailboxes + 3 * indexes
 
 abbrev pub messageRam : ℕ
-messageRam = 4154
+messageRam = matchSet + indexes / 32
 
 abbrev pub scheduleRam : ℕ
-scheduleRam = 4410
+scheduleRam = messageRam + messages
 
 -- the words of a channel
 abbrev pub blockWords : ℕ
-blockWords = 4666
+blockWords = scheduleRam + commands
 
 -- a block has exactly these words
 abbrev pub Whole : List ℕ → Type 0

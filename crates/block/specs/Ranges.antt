@@ -6,6 +6,8 @@ use mathlib.Core.Bool.{Bool, true, _&&_}
 use lib.Dec.{leb}
 use lib.ListN.{getD}
 use Rattle.word.specs.Gap.{least, greatest}
+use Rattle.ring.specs.Ring.{slots, lastSlot}
+use Rattle.schedule.specs.Codes.{last}
 use Rattle.block.specs.Layout.{word, ranged, receiveLevel, receiveSize, Whole}
 
 -- "switches, two-way modes .. 0 or 1", "transmit mode .. 0 to 2", size, thresholds and rate;
@@ -23,9 +25,9 @@ allConditions = 127
 
 unfoldable pub greatests : List ℕ
 greatests =
-    1 ∷ 1 ∷ 1 ∷ 1 ∷ 1 ∷ 1 ∷ 1 ∷ 2 ∷ 255 ∷ 255 ∷ 255 ∷ greatest
-    ∷ 255 ∷ 254 ∷ 255 ∷ 254
-    ∷ 2 ∷ 255 ∷ 1
+    1 ∷ 1 ∷ 1 ∷ 1 ∷ 1 ∷ 1 ∷ 1 ∷ 2 ∷ slots ∷ slots ∷ slots ∷ greatest
+    ∷ slots ∷ lastSlot ∷ slots ∷ lastSlot
+    ∷ 2 ∷ last ∷ 1
     ∷ allConditions ∷ allConditions ∷ allConditions ∷ []
 
 -- whether x is between the least and the greatest value that two tables have for word i

@@ -14,6 +14,7 @@ use crate::layout::TRANSMITTER;
 use crate::modes::BOUNDED;
 use crate::modes::FIFO_MODE;
 use crate::modes::IMMEDIATE;
+use ring::SLOTS;
 ghost use mathlib.Core.Path.{_≡_};
 ghost use Rattle.block.specs.Layout.{Whole};
 ghost use Rattle.block.specs.Factory.{nonzeroToFactory, settingsToFactory};
@@ -24,7 +25,7 @@ pub fn reset_nonzero_settings(block: &mut [u32])
     ensures { λ r. ⌜ now (block .exit) ≡ nonzeroToFactory (now (block .entry)) ⌝ }
 {
     block[PARITY] = 1;
-    block[RECEIVE_SIZE] = 255;
+    block[RECEIVE_SIZE] = SLOTS;
     block[ALMOST_FULL] = 128;
     block[ALMOST_EMPTY] = 32;
     block[RATE] = word::Gap::LEAST;

@@ -1,90 +1,98 @@
-// Where each word of a channel's block stands. The numbers with a range come first, so that one table of ranges serves them all.
+// Where each word of a channel's block stands. The numbers with a range come first, so that one table of ranges serves them all: an offset is the one before it and its size.
+use ring::SLOTS;
+use schedule::COMMANDS;
+use schedule::MESSAGES;
 
 // Settings.
 pub const RECEIVER: usize = 0;
 
-pub const TRANSMITTER: usize = 1;
+pub const TRANSMITTER: usize = RECEIVER + 1;
 
-pub const PARITY: usize = 2;
+pub const PARITY: usize = TRANSMITTER + 1;
 
-pub const MATCH: usize = 3;
+pub const MATCH: usize = PARITY + 1;
 
-pub const STAMPS: usize = 4;
+pub const STAMPS: usize = MATCH + 1;
 
-pub const RECEIVE_MODE: usize = 5;
+pub const RECEIVE_MODE: usize = STAMPS + 1;
 
-pub const FIFO_KIND: usize = 6;
+pub const FIFO_KIND: usize = RECEIVE_MODE + 1;
 
-pub const TRANSMIT_MODE: usize = 7;
+pub const TRANSMIT_MODE: usize = FIFO_KIND + 1;
 
-pub const RECEIVE_SIZE: usize = 8;
+pub const RECEIVE_SIZE: usize = TRANSMIT_MODE + 1;
 
-pub const ALMOST_FULL: usize = 9;
+pub const ALMOST_FULL: usize = RECEIVE_SIZE + 1;
 
-pub const ALMOST_EMPTY: usize = 10;
+pub const ALMOST_EMPTY: usize = ALMOST_FULL + 1;
 
-pub const RATE: usize = 11;
+pub const RATE: usize = ALMOST_EMPTY + 1;
 
 // How many settings there are.
-pub const SETTINGS: usize = 12;
+pub const SETTINGS: usize = RATE + 1;
 
 // Both FIFOs: how many entries are held, and the slot of the oldest.
-pub const RECEIVE_LEVEL: usize = 12;
+pub const RECEIVE_LEVEL: usize = SETTINGS;
 
-pub const RECEIVE_POSITION: usize = 13;
+pub const RECEIVE_POSITION: usize = RECEIVE_LEVEL + 1;
 
-pub const TRANSMIT_LEVEL: usize = 14;
+pub const TRANSMIT_LEVEL: usize = RECEIVE_POSITION + 1;
 
-pub const TRANSMIT_POSITION: usize = 15;
+pub const TRANSMIT_POSITION: usize = TRANSMIT_LEVEL + 1;
 
 // The transmitter's state, the address of the next command, and the mark of a waiting async word.
-pub const STATE: usize = 16;
+pub const STATE: usize = TRANSMIT_POSITION + 1;
 
-pub const ADDRESS: usize = 17;
+pub const ADDRESS: usize = STATE + 1;
 
-pub const ASYNC_MARK: usize = 18;
+pub const ASYNC_MARK: usize = ADDRESS + 1;
 
 // The status masks: latched conditions, enabled interrupts, and conditions that latch by level.
-pub const LATCH: usize = 19;
+pub const LATCH: usize = ASYNC_MARK + 1;
 
-pub const ENABLE: usize = 20;
+pub const ENABLE: usize = LATCH + 1;
 
-pub const LEVEL_MASK: usize = 21;
+pub const LEVEL_MASK: usize = ENABLE + 1;
 
 // How many words have a range: those above.
-pub const RANGED: usize = 22;
+pub const RANGED: usize = LEVEL_MASK + 1;
 
 // The async word, which is waiting where its mark is 1.
-pub const ASYNC_WORD: usize = 22;
+pub const ASYNC_WORD: usize = RANGED;
 
 // The counts of fates.
-pub const RECEIVE_ACCEPTED: usize = 23;
+pub const RECEIVE_ACCEPTED: usize = ASYNC_WORD + 1;
 
-pub const RECEIVE_READ: usize = 24;
+pub const RECEIVE_READ: usize = RECEIVE_ACCEPTED + 1;
 
-pub const RECEIVE_CLEARED: usize = 25;
+pub const RECEIVE_CLEARED: usize = RECEIVE_READ + 1;
 
-pub const RECEIVE_OVERWRITTEN: usize = 26;
+pub const RECEIVE_OVERWRITTEN: usize = RECEIVE_CLEARED + 1;
 
-pub const TRANSMIT_ACCEPTED: usize = 27;
+pub const TRANSMIT_ACCEPTED: usize = RECEIVE_OVERWRITTEN + 1;
 
-pub const TRANSMIT_SENT: usize = 28;
+pub const TRANSMIT_SENT: usize = TRANSMIT_ACCEPTED + 1;
 
-pub const TRANSMIT_CLEARED: usize = 29;
+pub const TRANSMIT_CLEARED: usize = TRANSMIT_SENT + 1;
 
 // The receive FIFO's ring of 255 entries of three words, and the transmit FIFO's of 255 words.
-pub const RECEIVE_RING: usize = 30;
+pub const RECEIVE_RING: usize = TRANSMIT_CLEARED + 1;
 
-pub const TRANSMIT_RING: usize = 795;
+pub const TRANSMIT_RING: usize = RECEIVE_RING + 3 * (SLOTS as usize);
+
+// The SDI/Label indexes.
+pub const INDEXES: u32 = 1024;
+
+pub const LAST_INDEX: u32 = INDEXES - 1;
 
 // 1,024 mailboxes of three words, the match set of 1,024 bits, the message RAM and the schedule RAM.
-pub const MAILBOXES: usize = 1050;
+pub const MAILBOXES: usize = TRANSMIT_RING + (SLOTS as usize);
 
-pub const MATCH_SET: usize = 4122;
+pub const MATCH_SET: usize = MAILBOXES + 3 * (INDEXES as usize);
 
-pub const MESSAGE_RAM: usize = 4154;
+pub const MESSAGE_RAM: usize = MATCH_SET + (INDEXES as usize) / 32;
 
-pub const SCHEDULE_RAM: usize = 4410;
+pub const SCHEDULE_RAM: usize = MESSAGE_RAM + (MESSAGES as usize);
 
 // The words of a channel.
-pub const WORDS: usize = 4666;
+pub const WORDS: usize = SCHEDULE_RAM + (COMMANDS as usize);

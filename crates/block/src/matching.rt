@@ -2,7 +2,7 @@
 use crate::layout::MATCH_SET;
 ghost use mathlib.Core.Path.{_≡_};
 ghost use Prim.Native.Nat.{_<_, _≤_, _^_};
-ghost use Rattle.block.specs.Layout.{Whole};
+ghost use Rattle.block.specs.Layout.{Whole, indexes};
 ghost use Rattle.block.specs.Matching.{matched, matchWritten, withBit};
 
 // The weight of bit `place` in a word.
@@ -24,7 +24,7 @@ fn with_bit(word: u32, place: u32, value: u32) -> u32
 
 // Whether an index is in the match set: 1 or 0.
 pub fn read(block: &[u32], index: u32) -> u32
-    requires { ⌜ (Whole (now block)) × (index < 1024) ⌝ }
+    requires { ⌜ (Whole (now block)) × (index < indexes) ⌝ }
     ensures { λ r. ⌜ r ≡ matched index (now (block .entry)) ⌝ }
 {
     (block[MATCH_SET + ((index / 32) as usize)] >> (index % 32)) % 2
@@ -32,7 +32,7 @@ pub fn read(block: &[u32], index: u32) -> u32
 
 // Puts an index into the match set (1) or takes it out (0).
 pub fn write(block: &mut [u32], index: u32, value: u32)
-    requires { ⌜ (Whole (now block)) × (index < 1024) × (value ≤ 1) ⌝ }
+    requires { ⌜ (Whole (now block)) × (index < indexes) × (value ≤ 1) ⌝ }
     ensures { λ r. ⌜ now (block .exit) ≡ matchWritten index value (now (block .entry)) ⌝ }
 {
     let at = MATCH_SET + ((index / 32) as usize);

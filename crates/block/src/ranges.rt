@@ -3,12 +3,14 @@ use crate::layout::RANGED;
 use crate::layout::RECEIVE_LEVEL;
 use crate::layout::RECEIVE_SIZE;
 use crate::layout::SETTINGS;
+use ring::LAST_SLOT;
+use ring::SLOTS;
 ghost use mathlib.Core.Path.{_≡_};
 ghost use Prim.Native.Nat.{_<_};
 ghost use Rattle.block.specs.Layout.{Whole, ranged};
 ghost use Rattle.block.specs.Ranges.{inRange, sound};
 
-const LEAST: [u32; 22] = [
+const LEAST: [u32; RANGED] = [
     0, // receiver
     0, // transmitter
     0, // parity
@@ -36,7 +38,7 @@ const LEAST: [u32; 22] = [
 // The greatest mask: all seven conditions.
 pub const ALL_CONDITIONS: u32 = 127;
 
-const GREATEST: [u32; 22] = [
+const GREATEST: [u32; RANGED] = [
     1, // receiver
     1, // transmitter
     1, // parity
@@ -45,16 +47,16 @@ const GREATEST: [u32; 22] = [
     1, // receive mode
     1, // FIFO kind
     2, // transmit mode
-    255, // receive FIFO size
-    255, // almost full threshold
-    255, // almost empty threshold
+    SLOTS, // receive FIFO size
+    SLOTS, // almost full threshold
+    SLOTS, // almost empty threshold
     word::Gap::GREATEST, // transmit rate
-    255, // receive level
-    254, // receive position
-    255, // transmit level
-    254, // transmit position
+    SLOTS, // receive level
+    LAST_SLOT, // receive position
+    SLOTS, // transmit level
+    LAST_SLOT, // transmit position
     2, // transmitter state
-    255, // command address
+    schedule::LAST, // command address
     1, // async mark
     ALL_CONDITIONS, // latch mask
     ALL_CONDITIONS, // enable mask

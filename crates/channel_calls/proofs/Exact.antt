@@ -7,7 +7,7 @@ use mathlib.Core.List.{List}
 use native.Mathlib.Omega.{arith}
 use borrow.Author.Tests.{eqb-true, eqb-false, le-ltb}
 use lib.Dec.{eqb, ltb}
-use Rattle.ring.specs.Ring.{slots}
+use Rattle.ring.specs.Ring.{slots, lastSlot}
 use Rattle.block.specs.Layout.{word, transmitter, receiveLevel, transmitLevel}
 use Rattle.block.specs.Ranges.{leasts, greatests, Usable}
 use Rattle.block.proofs.Sound.{at-most}
@@ -33,11 +33,11 @@ pub write-refusal : (w : ℕ) {b : List ℕ} → Usable b → transmitCallRefusa
 unfolding above leasts greatests
 write-refusal w {b} u = ap (λ (t : Bool). cond t 6 0) (go (eqb (word b transmitLevel) slots) refl)
   where
-    go : (t : Bool) → eqb (word b transmitLevel) slots ≡ t → ltb 254 (word b transmitLevel) ≡ t
+    go : (t : Bool) → eqb (word b transmitLevel) slots ≡ t → ltb lastSlot (word b transmitLevel) ≡ t
     go true e = rw (eqb-true (word b transmitLevel) slots e) refl
     go false e =
-        let n : word b transmitLevel ≤ 254 = omega (arith, eqb-false (word b transmitLevel) slots e, at-most u transmitLevel (omega arith)) in
-        le-ltb 254 (word b transmitLevel) n
+        let n : word b transmitLevel ≤ lastSlot = omega (arith, eqb-false (word b transmitLevel) slots e, at-most u transmitLevel (omega arith)) in
+        le-ltb lastSlot (word b transmitLevel) n
 
 -- a trigger is "refused with 5 if the transmitter is off"
 pub trigger-refusal : (b : List ℕ) → transmitCallRefusal Trigger b ≡ cond (eqb (word b transmitter) 0) 5 0

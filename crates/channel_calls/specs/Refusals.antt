@@ -3,7 +3,9 @@ use Prim.Native.Nat.{ℕ}
 use mathlib.Core.List.{List}
 use mathlib.Core.Bool.{cond}
 use lib.Dec.{ltb}
-use Rattle.block.specs.Layout.{word, receiveLevel, transmitLevel, transmitMode, transmitter, asyncMark}
+use Rattle.ring.specs.Ring.{lastSlot}
+use Rattle.schedule.specs.Codes.{lastMessage, last}
+use Rattle.block.specs.Layout.{word, receiveLevel, transmitLevel, transmitMode, transmitter, asyncMark, lastIndex}
 use Rattle.block.specs.Modes.{scheduled}
 use Rattle.block.specs.Ranges.{allConditions}
 use Rattle.block.specs.Refusals.{first}
@@ -38,12 +40,12 @@ settingCallRefusal (ReadSetting s) b = 0
 
 -- "a RAM address 0 to 255, a match index 0 to 1023"; a mark is 0 or 1
 abbrev pub memoryCallRefusal : MemoryCall → ℕ
-memoryCallRefusal (WriteMatch i v) = first (above 1023 i 4) (above 1 v 4)
-memoryCallRefusal (ReadMatch i) = above 1023 i 4
-memoryCallRefusal (WriteSchedule a v) = above 255 a 4
-memoryCallRefusal (ReadSchedule a) = above 255 a 4
-memoryCallRefusal (WriteMessage a v) = above 255 a 4
-memoryCallRefusal (ReadMessage a) = above 255 a 4
+memoryCallRefusal (WriteMatch i v) = first (above lastIndex i 4) (above 1 v 4)
+memoryCallRefusal (ReadMatch i) = above lastIndex i 4
+memoryCallRefusal (WriteSchedule a v) = above last a 4
+memoryCallRefusal (ReadSchedule a) = above last a 4
+memoryCallRefusal (WriteMessage a v) = above lastMessage a 4
+memoryCallRefusal (ReadMessage a) = above lastMessage a 4
 
 -- "latch, enable and level masks 0 to 127"
 abbrev pub statusCallRefusal : StatusCall → ℕ
@@ -65,12 +67,12 @@ testCallRefusal (InitiateTest r) = above 1 r 4
 abbrev pub receiveCallRefusal : ReceiveCall → List ℕ → ℕ
 receiveCallRefusal (Arrive w) b = 0
 receiveCallRefusal ReadFifo b = below 1 (word b receiveLevel) 7
-receiveCallRefusal (ReadMailbox i) b = above 1023 i 4
+receiveCallRefusal (ReadMailbox i) b = above lastIndex i 4
 
 -- "transmit FIFO written while it holds 255, or async written while an async word already waits": 6;
 -- "Async is refused with 5 outside scheduled mode"; a trigger is "refused with 5 if the transmitter is off"
 abbrev pub transmitCallRefusal : TransmitCall → List ℕ → ℕ
-transmitCallRefusal (WriteFifo w) b = above 254 (word b transmitLevel) 6
+transmitCallRefusal (WriteFifo w) b = above lastSlot (word b transmitLevel) 6
 transmitCallRefusal (WriteAsync w) b = first (below scheduled (word b transmitMode) 5) (above 0 (word b asyncMark) 6)
 transmitCallRefusal Trigger b = below 1 (word b transmitter) 5
 transmitCallRefusal Pause b = 0

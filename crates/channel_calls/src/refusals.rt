@@ -7,8 +7,12 @@ use crate::calls::SettingCall;
 use crate::calls::StatusCall;
 use crate::calls::TestCall;
 use crate::calls::TransmitCall;
+use block::layout::LAST_INDEX;
 use block::modes::SCHEDULED;
 use block::ranges::ALL_CONDITIONS;
+use ring::LAST_SLOT;
+use schedule::LAST;
+use schedule::LAST_MESSAGE;
 ghost use mathlib.Core.Path.{_≡_};
 ghost use Prim.Native.Nat.{_<_};
 ghost use Rattle.block.specs.Layout.{Whole, settings};
@@ -85,12 +89,15 @@ fn memory_refusal(call: MemoryCall) -> u32
     ensures { λ r. ⌜ r ≡ memoryCallRefusal call ⌝ }
 {
     match call {
-        MemoryCall::WriteMatch(index, mark) => first(above(1023, index, 4), above(1, mark, 4)),
-        MemoryCall::ReadMatch(index) => above(1023, index, 4),
-        MemoryCall::WriteSchedule(address, _) => above(255, address, 4),
-        MemoryCall::ReadSchedule(address) => above(255, address, 4),
-        MemoryCall::WriteMessage(address, _) => above(255, address, 4),
-        MemoryCall::ReadMessage(address) => above(255, address, 4),
+        MemoryCall::WriteMatch(index, mark) => first(
+            above(LAST_INDEX, index, 4),
+            above(1, mark, 4),
+        ),
+        MemoryCall::ReadMatch(index) => above(LAST_INDEX, index, 4),
+        MemoryCall::WriteSchedule(address, _) => above(LAST, address, 4),
+        MemoryCall::ReadSchedule(address) => above(LAST, address, 4),
+        MemoryCall::WriteMessage(address, _) => above(LAST_MESSAGE, address, 4),
+        MemoryCall::ReadMessage(address) => above(LAST_MESSAGE, address, 4),
     }
 }
 
@@ -125,7 +132,7 @@ fn receive_refusal(block: &[u32], call: ReceiveCall) -> u32
     match call {
         ReceiveCall::Arrive(_) => 0,
         ReceiveCall::ReadFifo => below(1, block[block::layout::RECEIVE_LEVEL], 7),
-        ReceiveCall::ReadMailbox(index) => above(1023, index, 4),
+        ReceiveCall::ReadMailbox(index) => above(LAST_INDEX, index, 4),
     }
 }
 
@@ -134,7 +141,7 @@ fn transmit_refusal(block: &[u32], call: TransmitCall) -> u32
     ensures { λ r. ⌜ r ≡ transmitCallRefusal call (now (block .entry)) ⌝ }
 {
     match call {
-        TransmitCall::WriteFifo(_) => above(254, block[block::layout::TRANSMIT_LEVEL], 6),
+        TransmitCall::WriteFifo(_) => above(LAST_SLOT, block[block::layout::TRANSMIT_LEVEL], 6),
         TransmitCall::WriteAsync(_) => first(
             below(SCHEDULED, block[block::layout::TRANSMIT_MODE], 5),
             above(0, block[block::layout::ASYNC_MARK], 6),

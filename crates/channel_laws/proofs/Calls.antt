@@ -7,6 +7,7 @@ use Prim.Native.Nat.{ℕ, _%_, _+_, _≤_, _<_, zero-le}
 use native.Mathlib.Omega.{arith}
 use lib.Dec.{eqb}
 use lib.ListN.{take, set}
+use Rattle.ring.specs.Ring.{slots, lastSlot}
 use Rattle.block.specs.Layout.{word, settings, receiveLevel, receiveOverwritten, transmitMode, transmitLevel, latch, enable, levelMask}
 use Rattle.block.specs.Ranges.{allConditions, leasts, greatests, Usable}
 use Rattle.block.specs.Clearing.{stopped}
@@ -149,7 +150,7 @@ step-change mode (Reserved at) f h = refl
 transmit-left : (stamp : ℕ) (k : TransmitCall) {b : List ℕ} → Usable b → transmitCallRefusal k b ≡ 0
     → Holds (transmitAfter k b) (keptBy counted (effect stamp (Transmit k) (transmitAnswer k b) (take settings b)) (keptOf b))
 transmit-left stamp (WriteFifo w) {b} u e =
-    let room : word b transmitLevel < 255 = omega (arith, not-above 254 (word b transmitLevel) 5 e) in
+    let room : word b transmitLevel < slots = omega (arith, not-above lastSlot (word b transmitLevel) 5 e) in
     transmitted (Adds (w ∷ [])) u (fifo-write-keeps u w room) (write-accepts u w room)
 transmit-left stamp (WriteAsync w) {b} u e = transmitted Stays u (async-keeps u w) (async-fifo b w)
 transmit-left stamp Trigger {b} u e = transmitted Stays u (trigger-keeps u) (trigger-fifo b)

@@ -9,24 +9,24 @@ abbrev pub count : ℕ
 count = 0
 
 abbrev pub stamp : ℕ
-stamp = 1
+stamp = count + 1
 
 abbrev pub resolution : ℕ
-resolution = 2
+resolution = stamp + 1
 
 abbrev pub threshold : ℕ
-threshold = 3
+threshold = resolution + 1
 
 -- "the module's twelve counters", those of unused channels too
 abbrev pub counters : ℕ
-counters = 4
-
-abbrev pub moduleWords : ℕ
-moduleWords = 16
+counters = threshold + 1
 
 -- "A module has 1 to 12 channels"
 abbrev pub most : ℕ
 most = 12
+
+abbrev pub moduleWords : ℕ
+moduleWords = counters + most
 
 -- the words that n channels need
 abbrev pub need : ℕ → ℕ

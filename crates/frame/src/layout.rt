@@ -6,17 +6,17 @@ ghost use Rattle.frame.specs.Layout.{need, most};
 
 pub const COUNT: usize = 0;
 
-pub const STAMP: usize = 1;
+pub const STAMP: usize = COUNT + 1;
 
-pub const RESOLUTION: usize = 2;
+pub const RESOLUTION: usize = STAMP + 1;
 
-pub const THRESHOLD: usize = 3;
+pub const THRESHOLD: usize = RESOLUTION + 1;
 
 // The twelve fault counters, also those of unused channels.
-pub const COUNTERS: usize = 4;
+pub const COUNTERS: usize = THRESHOLD + 1;
 
 // The words of the module part.
-pub const MODULE_WORDS: usize = 16;
+pub const MODULE_WORDS: usize = COUNTERS + (MOST as usize);
 
 // The most channels that a module has.
 pub const MOST: u32 = 12;

@@ -18,9 +18,9 @@ pub const THRESHOLD_LEAST: u32 = 1;
 
 pub const THRESHOLD_GREATEST: u32 = 65535;
 
-const LEAST: [u32; 16] = [1, 0, 0, THRESHOLD_LEAST, 0, 0, 0, 0, 0, 0, 0, 0, 0, 0, 0, 0];
+const LEAST: [u32; MODULE_WORDS] = [1, 0, 0, THRESHOLD_LEAST, 0, 0, 0, 0, 0, 0, 0, 0, 0, 0, 0, 0];
 
-const GREATEST: [u32; 16] = [
+const GREATEST: [u32; MODULE_WORDS] = [
     MOST,
     0xFFFF_FFFF,
     RESOLUTION_GREATEST,

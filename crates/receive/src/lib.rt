@@ -21,7 +21,7 @@ ghost use mathlib.Core.Path.{_≡_};
 ghost use Prim.Native.Nat.{_<_};
 ghost use Rattle.ring.specs.Ring.{slots};
 ghost use Rattle.ring.specs.Entry.{fields};
-ghost use Rattle.block.specs.Layout.{word, receiveLevel};
+ghost use Rattle.block.specs.Layout.{word, receiveLevel, indexes};
 ghost use Rattle.block.specs.Ranges.{Usable};
 ghost use Rattle.block.specs.Fifos.{receiveOffsets, entryAppended};
 ghost use Rattle.receive.specs.Arrival.{filtered, arrival};
@@ -235,7 +235,7 @@ pub fn read_fifo(block: &mut [u32]) -> Entry
 
 // Reads a mailbox, which is then no longer new.
 pub fn read_mailbox(block: &mut [u32], index: u32) -> Entry
-    requires { ⌜ (Usable (now block)) × (index < 1024) ⌝ }
+    requires { ⌜ (Usable (now block)) × (index < indexes) ⌝ }
     ensures { λ r. ⌜ (fields r ≡ mailboxAnswer index (now (block .entry)))
         × (now (block .exit) ≡ mailboxAfter index (now (block .entry))) ⌝ }
 {

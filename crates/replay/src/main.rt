@@ -1,40 +1,27 @@
 // Performs a list of calls on a module of twelve channels at most, whose memory starts as all zeros. Standard input has items of 16 bytes:
 // the words op, channel, a and b, lowest byte first. One line is written for each: the answer's number and its values.
+use block::layout::WORDS;
 use calls::perform::NO_CALL;
+use frame::layout::MODULE_WORDS;
+use frame::layout::MOST;
 use libc::STDIN_FILENO;
 use libc::STDOUT_FILENO;
+use sessions::ITEM_BYTES;
 ghost use mathlib.Core.Path.{_≡_};
-ghost use Prim.Native.Nat.{_+_, _*_, _/_, _≤_};
+ghost use Prim.Native.Nat.{_+_, _/_, _≤_};
 ghost use lib.ListN.{length, replicate};
 ghost use Rattle.calls.specs.Performed.{itemAfter};
-ghost use Rattle.replay.specs.Replay.{wordAt, itemAt, performed};
+ghost use Rattle.frame.specs.Layout.{need, most};
+ghost use Rattle.sessions.specs.Sessions.{itemBytes, itemAt, performed};
 
-// The memory of twelve channels, all zeros.
-fn memory() -> [u32; 56008]
-    ensures { λ r. ⌜ r ≡ replicate 56008 0 ⌝ }
-{
-    [0; 56008]
-}
+// The words of twelve channels.
+const NEED: usize = MODULE_WORDS + (MOST as usize) * WORDS;
 
-fn wide(x: u8) -> u32
-    ensures { λ r. ⌜ r ≡ x ⌝ }
+// Their memory, all zeros.
+fn memory() -> [u32; NEED]
+    ensures { λ r. ⌜ r ≡ replicate (need most) 0 ⌝ }
 {
-    x as u32
-}
-
-// The word of four bytes, lowest first.
-fn word(b0: u8, b1: u8, b2: u8, b3: u8) -> u32
-    ensures { λ r. ⌜ r ≡ b0 + 256 * b1 + 65536 * b2 + 16777216 * b3 ⌝ }
-{
-    wide(b0) + 256 * wide(b1) + 65536 * wide(b2) + 16777216 * wide(b3)
-}
-
-// The word at an index.
-fn word_at(bytes: &[u8], at: usize) -> u32
-    requires { ⌜ at + 4 ≤ length (now bytes) ⌝ }
-    ensures { λ r. ⌜ r ≡ wordAt (now (bytes .entry)) at ⌝ }
-{
-    word(bytes[at], bytes[at + 1], bytes[at + 2], bytes[at + 3])
+    [0; NEED]
 }
 
 // Writes the number in a place of a line: a space parts it from the one before.
@@ -63,16 +50,10 @@ fn show(numbers: &[u32], count: usize)
 
 // Performs the item at an index and writes its line.
 fn perform_at(mem: &mut [u32], bytes: &[u8], at: usize)
-    requires { ⌜ at + 16 ≤ length (now bytes) ⌝ }
+    requires { ⌜ at + itemBytes ≤ length (now bytes) ⌝ }
     ensures { λ r. ⌜ now (mem .exit) ≡ itemAfter (itemAt (now (bytes .entry)) at) (now (mem .entry)) ⌝ }
 {
-    let answered = calls::perform::perform_item(
-        mem,
-        word_at(bytes, at),
-        word_at(bytes, at + 4),
-        word_at(bytes, at + 8),
-        word_at(bytes, at + 12),
-    );
+    let answered = sessions::perform_at(mem, bytes, at);
     let numbers = answered.words;
     let count = answered.count;
     show(&numbers, count);
@@ -80,12 +61,12 @@ fn perform_at(mem: &mut [u32], bytes: &[u8], at: usize)
 
 // Performs the items in order; a cut last item is no call.
 fn perform_all(mem: &mut [u32], bytes: &[u8])
-    ensures { λ r. ⌜ now (mem .exit) ≡ performed (length (now (bytes .entry)) / 16) (now (bytes .entry)) (now (mem .entry)) ⌝ }
+    ensures { λ r. ⌜ now (mem .exit) ≡ performed (length (now (bytes .entry)) / itemBytes) (now (bytes .entry)) (now (mem .entry)) ⌝ }
 {
     let mut at = 0;
-    while 16 <= bytes.len() - at {
+    while ITEM_BYTES <= bytes.len() - at {
         perform_at(mem, bytes, at);
-        at += 16;
+        at += ITEM_BYTES;
     }
     if at < bytes.len() {
         put(0, NO_CALL);

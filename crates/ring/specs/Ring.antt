@@ -1,6 +1,6 @@
 -- First-in, first-out rings in a block of words. A ring holds `level` entries, the oldest of them in slot `pos`, and each next one in the next slot.
 -- Slots are counted on without end: slot k is the ring's slot k modulo the number of slots.
-use Prim.Native.Nat.{ℕ, zero, suc, _+_, _*_, _%_}
+use Prim.Native.Nat.{ℕ, zero, suc, _+_, _-_, _*_, _%_}
 use mathlib.Core.List.{List, [], _∷_}
 use lib.ListN.{getD}
 use lib.Seq.{sets}
@@ -43,6 +43,9 @@ next n pos = (pos + 1) % n
 -- the rings that the code has: of entries of three words, and of one
 abbrev pub slots : ℕ
 slots = 255
+
+abbrev pub lastSlot : ℕ
+lastSlot = slots - 1
 
 abbrev pub triples : ℕ → Ring
 triples at = record { at = at; width = 3; slots = slots }

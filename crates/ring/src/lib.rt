@@ -11,6 +11,8 @@ ghost use Rattle.ring.specs.Entry.{fields};
 // The slots of a ring: a FIFO holds at most so many entries.
 pub const SLOTS: u32 = 255;
 
+pub const LAST_SLOT: u32 = SLOTS - 1;
+
 // An entry of the receive FIFO.
 pub struct Entry {
     pub status: u32,

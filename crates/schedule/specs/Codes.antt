@@ -1,5 +1,5 @@
 -- The numbers of a schedule and what stands in a command (paper 01, "Transmit").
-use Prim.Native.Nat.{ℕ, _/_, _%_}
+use Prim.Native.Nat.{ℕ, _-_, _/_, _%_}
 
 -- "States: idle, running, paused"
 abbrev pub idle : ℕ
@@ -15,9 +15,19 @@ paused = 2
 abbrev pub code : ℕ → ℕ
 code command = command / 4096 % 16
 
+-- "Message RAM is 256 words", "schedule RAM, 256 words"
+abbrev pub messages : ℕ
+messages = 256
+
+abbrev pub lastMessage : ℕ
+lastMessage = messages - 1
+
+abbrev pub commands : ℕ
+commands = 256
+
 -- "message RAM at bits 7 to 0"
 abbrev pub messageAddress : ℕ → ℕ
-messageAddress command = command % 256
+messageAddress command = command % messages
 
 -- "to address in bits 8 to 0"
 abbrev pub target : ℕ → ℕ
@@ -45,9 +55,9 @@ interrupt = 5
 abbrev pub jump : ℕ
 jump = 6
 
--- "schedule RAM, 256 words": the address of the last command
+-- the address of the last command
 abbrev pub last : ℕ
-last = 255
+last = commands - 1
 
 -- "In a gap of 40 or more a waiting async word goes out: 4 null, the word (32), g - 36 null"
 abbrev pub asyncGap : ℕ

@@ -28,8 +28,15 @@ pub const INTERRUPT: u32 = 5;
 
 pub const JUMP: u32 = 6;
 
-// The address of the last command.
-pub const LAST: u32 = 255;
+// The words of the message RAM, and the address of the last.
+pub const MESSAGES: u32 = 256;
+
+pub const LAST_MESSAGE: u32 = MESSAGES - 1;
+
+// The words of the schedule RAM, and the address of the last command.
+pub const COMMANDS: u32 = 256;
+
+pub const LAST: u32 = COMMANDS - 1;
 
 // The shortest gap in which an async word goes out.
 pub const ASYNC_GAP: u32 = 40;
@@ -68,7 +75,7 @@ pub struct Outcome {
 pub fn message_address(command: u32) -> u32
     ensures { λ r. ⌜ r ≡ messageAddress command ⌝ }
 {
-    command % 256
+    command % MESSAGES
 }
 
 // The output in four numbers: its form and what belongs to it.

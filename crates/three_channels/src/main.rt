@@ -1,4 +1,5 @@
 // Three channels in one lent memory: words arrive on the first and are read, a schedule runs on the second, the third overruns.
+use block::layout::WORDS;
 use block::modes::CIRCULAR;
 use block::modes::SCHEDULED;
 use channel_calls::calls::Answer;
@@ -10,6 +11,7 @@ use channel_calls::calls::Setting;
 use channel_calls::calls::SettingCall;
 use channel_calls::calls::StatusCall;
 use channel_calls::calls::TransmitCall;
+use frame::layout::MODULE_WORDS;
 use libc::STDOUT_FILENO;
 use module::calls::Call;
 use module::perform::perform;
@@ -229,8 +231,11 @@ fn overrun(mem: &mut [u32]) {
     status(mem, 3);
 }
 
+// The words that three channels need: 56 KiB.
+const NEED: usize = MODULE_WORDS + 3 * WORDS;
+
 fn main() {
-    let mut mem = [0u32; 14014];
+    let mut mem = [0u32; NEED];
     write(b"power-up of three channels:");
     show(perform(&mut mem, Call::PowerUp(3)));
     write(b"\n");

@@ -1,17 +1,17 @@
 -- `replay::perform_all` meets its contract: each turn performs one item more.
 -- Assumes nothing.
 use native.Mathlib.Omega.{arith}
-use Rattle.replay.proofs.Items.{one-more, whole}
+use Rattle.sessions.proofs.Items.{one-more, whole}
 use Prim.Native.Nat.{_≤_, _-_, _*_, _/_}
 use lib.ListN.{length}
 use mathlib.Core.Path.{_≡_}
-use Rattle.replay.specs.Replay.{performed}
+use Rattle.sessions.specs.Sessions.{itemBytes, performed}
 use borrow.Author.Needs.{needs}
 use Rattle.replay.proofs.perform_all.Statement.{statement}
 use Rattle.replay.proofs.perform_all.Tie as tie
 
 abbrev Inv-loop : tie.InvT-loop
-Inv-loop mem₀ bytes at₀ mem at = (at ≤ length bytes) × (length mem ≡ length mem₀) × (at ≡ 16 * (at / 16)) × (mem ≡ performed (at / 16) bytes mem₀)
+Inv-loop mem₀ bytes at₀ mem at = (at ≤ length bytes) × (length mem ≡ length mem₀) × (at ≡ itemBytes * (at / itemBytes)) × (mem ≡ performed (at / itemBytes) bytes mem₀)
 
 abbrev μ-loop : tie.MeasureT-loop
 μ-loop mem₀ bytes at₀ mem at = length bytes - at

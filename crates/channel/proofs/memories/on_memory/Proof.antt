@@ -3,6 +3,8 @@
 use mathlib.Core.Path.{refl, ap}
 use native.Mathlib.Omega.{arith}
 use Rattle.block.proofs.Refusals.{neither}
+use Rattle.schedule.specs.Codes.{lastMessage, last}
+use Rattle.block.specs.Layout.{lastIndex}
 use Rattle.channel_calls.proofs.Accepted.{not-above}
 use Rattle.channel_calls.specs.declared.calls.Answer.the-variants.{Value}
 use borrow.Author.Needs.{needs}
@@ -10,22 +12,22 @@ use Rattle.channel.proofs.memories.on_memory.Statement.{statement}
 use Rattle.channel.proofs.memories.on_memory.Tie as tie
 
 write-requires : tie.Need-write-requires
-write-requires c κs = let both = neither _ _ (rw (c .before .before .call .given .1) at (c .before .before .before .before .before .pre .1)) in omega (arith, not-above 1023 _ 3 (both .0), not-above 1 _ 3 (both .1))
+write-requires c κs = let both = neither _ _ (rw (c .before .before .call .given .1) at (c .before .before .before .before .before .pre .1)) in omega (arith, not-above lastIndex _ 3 (both .0), not-above 1 _ 3 (both .1))
 
 read-requires : tie.Need-read-requires
-read-requires c κs = omega (arith, not-above 1023 _ 3 (rw (c .before .before .call2 .given .1) at (c .before .before .before .before .before .pre .1)))
+read-requires c κs = omega (arith, not-above lastIndex _ 3 (rw (c .before .before .call2 .given .1) at (c .before .before .before .before .before .pre .1)))
 
 write-requires-2 : tie.Need-write-requires-2
-write-requires-2 c κs = omega (arith, not-above 255 _ 3 (rw (c .before .before .call3 .given .1) at (c .before .before .before .before .before .pre .1)))
+write-requires-2 c κs = omega (arith, not-above last _ 3 (rw (c .before .before .call3 .given .1) at (c .before .before .before .before .before .pre .1)))
 
 read-requires-2 : tie.Need-read-requires-2
-read-requires-2 c κs = omega (arith, not-above 255 _ 3 (rw (c .before .before .call4 .given .1) at (c .before .before .before .before .before .pre .1)))
+read-requires-2 c κs = omega (arith, not-above last _ 3 (rw (c .before .before .call4 .given .1) at (c .before .before .before .before .before .pre .1)))
 
 write-requires-3 : tie.Need-write-requires-3
-write-requires-3 c κs = omega (arith, not-above 255 _ 3 (rw (c .before .before .call5 .given .1) at (c .before .before .before .before .before .pre .1)))
+write-requires-3 c κs = omega (arith, not-above lastMessage _ 3 (rw (c .before .before .call5 .given .1) at (c .before .before .before .before .before .pre .1)))
 
 read-requires-3 : tie.Need-read-requires-3
-read-requires-3 c κs = omega (arith, not-above 255 _ 3 (rw (c .before .before .call6 .given .1) at (c .before .before .before .before .before .pre .1)))
+read-requires-3 c κs = omega (arith, not-above lastMessage _ 3 (rw (c .before .before .call6 .given .1) at (c .before .before .before .before .before .pre .1)))
 
 returns : tie.Need-returns
 returns c = (cc, cc)

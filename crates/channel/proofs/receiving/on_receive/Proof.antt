@@ -2,6 +2,7 @@
 -- Assumes nothing.
 use native.Mathlib.Omega.{arith}
 use mathlib.Core.Path.{refl, ap}
+use Rattle.block.specs.Layout.{lastIndex}
 use Rattle.channel_calls.proofs.Accepted.{not-above, not-below}
 use Rattle.channel.specs.Groups.{entryAnswer}
 use Rattle.channel_calls.specs.declared.calls.Answer.the-variants.{Arrived}
@@ -13,7 +14,7 @@ read-fifo-requires : tie.Need-read-fifo-requires
 read-fifo-requires c κs = (c .before .before .before .before .pre .0, not-below 1 _ 6 (rw (c .before .enum-told .given .1) at (c .before .before .before .before .pre .1)))
 
 read-mailbox-requires : tie.Need-read-mailbox-requires
-read-mailbox-requires c κs = (c .before .before .before .before .before .pre .0, omega (arith, not-above 1023 _ 3 (rw (c .before .before .call2 .given .1) at (c .before .before .before .before .before .pre .1))))
+read-mailbox-requires c κs = (c .before .before .before .before .before .pre .0, omega (arith, not-above lastIndex _ 3 (rw (c .before .before .call2 .given .1) at (c .before .before .before .before .before .pre .1))))
 
 returns : tie.Need-returns
 returns c = rw (c .before .before .before .before .before .call .given .1) (ap Arrived (c .before .before .arrive .ensures .0), c .before .before .arrive .ensures .1, c .before .before .arrive .ensures .2)

@@ -2,6 +2,7 @@
 -- Assumes nothing.
 use native.Mathlib.Omega.{arith}
 use mathlib.Core.Path.{ap}
+use Rattle.ring.specs.Ring.{lastSlot}
 use Rattle.channel_calls.proofs.Accepted.{not-above}
 use Rattle.channel_calls.specs.declared.calls.Answer.the-variants.{Stepped}
 use borrow.Author.Needs.{needs}
@@ -9,7 +10,7 @@ use Rattle.channel.proofs.transmitting.on_transmit.Statement.{statement
 use Rattle.channel.proofs.transmitting.on_transmit.Tie as tie
 
 write-fifo-requires : tie.Need-write-fifo-requires
-write-fifo-requires c κs = (c .before .before .before .before .before .pre .0, omega (arith, not-above 254 _ 5 (rw (c .before .before .call .given .1) at (c .before .before .before .before .before .pre .1))))
+write-fifo-requires c κs = (c .before .before .before .before .before .pre .0, omega (arith, not-above lastSlot _ 5 (rw (c .before .before .call .given .1) at (c .before .before .before .before .before .pre .1))))
 
 returns : tie.Need-returns
 returns c = rw (c .before .before .before .before .before .before .call .given .1) (c .done .ensures .0, c .done .ensures .1, c .before .before .before .write-fifo .ensures)

@@ -1,9 +1,9 @@
--- `replay::word_at` meets its contract: the word of its four bytes.
+-- `little_endian::word_at` meets its contract: the word of its four bytes.
 -- Assumes nothing.
-use Rattle.replay.specs.Replay.{wordAt}
+use Rattle.little_endian.specs.LittleEndian.{wordAt}
 use borrow.Author.Needs.{needs}
-use Rattle.replay.proofs.word_at.Statement.{statement}
-use Rattle.replay.proofs.word_at.Tie as tie
+use Rattle.little_endian.proofs.word_at.Statement.{statement}
+use Rattle.little_endian.proofs.word_at.Tie as tie
 
 returns : tie.Need-returns
 unfolding wordAt
