@@ -1,10 +1,12 @@
 -- One command of the schedule (paper 01, "Transmit").
 use Prim.Native.Nat.{ℕ, _+_, _-_}
 use mathlib.Core.Bool.{cond}
+use mathlib.Core.List.{List}
 use lib.Dec.{eqb, leb, ltb}
+use lib.ListN.{getD}
 use Rattle.word.specs.Gap.{clamped}
 use Rattle.word.specs.Parity.{asSent}
-use Rattle.schedule.specs.Codes.{idle, running, paused, code, target, stop, message, gap, fixedGap, pause, interrupt, jump, last, asyncGap, asyncPart}
+use Rattle.schedule.specs.Codes.{idle, running, paused, code, messageAddress, target, stop, message, gap, fixedGap, pause, interrupt, jump, last, asyncGap, asyncPart}
 use Rattle.schedule.specs.declared.Place.{Place}
 use Rattle.schedule.specs.declared.Outcome.{Outcome}
 use Rattle.schedule.specs.declared.Output.{Output}
@@ -56,3 +58,8 @@ commandStep p parity command value =
 -- "while running, one command of the schedule RAM"; else quiet
 unfoldable pub stepped : Place → ℕ → ℕ → ℕ → Outcome
 stepped p parity command value = cond (eqb (p .state) running) (commandStep p parity command value) (gives Quiet p)
+
+-- the same over the two RAMs: "one command of the schedule RAM", "message RAM at bits 7 to 0"
+unfoldable pub stepAt : List ℕ → List ℕ → Place → ℕ → Outcome
+stepAt schedule messages p parity =
+    stepped p parity (getD schedule (p .address) 0) (getD messages (messageAddress (getD schedule (p .address) 0)) 0)

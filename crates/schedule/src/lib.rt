@@ -1,10 +1,12 @@
 // One command of a transmit schedule, by value: from where the schedule stands, the command and the message RAM's word to one output and
-// where the schedule then stands. Every function takes any number.
+// where the schedule then stands. Every function takes any number; the last one reads command and word from the two RAMs.
 use word::Gap;
 ghost use mathlib.Core.Path.{_≡_};
-ghost use Rattle.schedule.specs.Codes.{messageAddress};
+ghost use Prim.Native.Nat.{_<_, _≤_};
+ghost use lib.ListN.{length};
+ghost use Rattle.schedule.specs.Codes.{messageAddress, messages};
 ghost use Rattle.schedule.specs.Output.{values};
-ghost use Rattle.schedule.specs.Schedule.{at, onward, asyncSent, gives, gapStep, reservedStep, jumpStep, commandStep, stepped};
+ghost use Rattle.schedule.specs.Schedule.{at, onward, asyncSent, gives, gapStep, reservedStep, jumpStep, commandStep, stepped, stepAt};
 
 // The transmitter's states.
 pub const IDLE: u32 = 0;
@@ -216,4 +218,15 @@ pub fn step(place: Place, parity: u32, command: u32, value: u32) -> Outcome
         return command_step(place, parity, command, value);
     }
     gives(Output::Quiet, place)
+}
+
+// The same over the two RAMs: the command at the place's address, and the message RAM's word that it names.
+pub fn step_at(schedule: &[u32], ram: &[u32], place: Place, parity: u32) -> Outcome
+    requires { ⌜ (place .address < length (now schedule)) × (messages ≤ length (now ram)) ⌝ }
+    ensures { λ r. ⌜ r ≡ stepAt (now (schedule .entry)) (now (ram .entry)) place parity ⌝ }
+{
+    let address = place.address as usize;
+    let command = schedule[address];
+    let value = ram[message_address(command) as usize];
+    step(place, parity, command, value)
 }

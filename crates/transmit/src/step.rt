@@ -13,9 +13,11 @@ use block::layout::TRANSMIT_POSITION;
 use block::layout::TRANSMIT_RING;
 use block::layout::TRANSMIT_SENT;
 use block::layout::TRANSMITTER;
+use block::layout::WORDS;
 use block::modes::IMMEDIATE;
 use block::modes::TRIGGERED;
 use schedule::IDLE;
+use schedule::Outcome;
 use schedule::Output;
 use schedule::PAUSED;
 use schedule::Place;
@@ -79,21 +81,32 @@ fn triggered(block: &mut [u32]) -> Output
     Output::Quiet
 }
 
+// One command of the schedule, from the block's two RAMs.
+fn command(block: &[u32]) -> Outcome
+    requires { ⌜ Usable (now block) ⌝ }
+    ensures { λ r. ⌜ r ≡ scheduledOutcome (now (block .entry)) ⌝ }
+{
+    let place = Place {
+        state: block[STATE],
+        address: block[ADDRESS],
+        waiting: block[ASYNC_MARK],
+        word: block[ASYNC_WORD],
+    };
+    let parity = block[PARITY];
+    schedule::step_at(
+        &block[SCHEDULE_RAM..WORDS],
+        &block[MESSAGE_RAM..SCHEDULE_RAM],
+        place,
+        parity,
+    )
+}
+
 // A step in scheduled mode: one command of the schedule.
 fn scheduled(block: &mut [u32]) -> Stepped
     requires { ⌜ Usable (now block) ⌝ }
     ensures { λ r. ⌜ (r .output ≡ scheduledOutcome (now (block .entry)) .output) × (r .signal ≡ scheduledSignal (now (block .entry))) × (now (block .exit) ≡ scheduledAfter (now (block .entry))) ⌝ }
 {
-    let address = block[ADDRESS];
-    let command = block::memories::read(block, SCHEDULE_RAM, address);
-    let message = block::memories::read(block, MESSAGE_RAM, schedule::message_address(command));
-    let place = Place {
-        state: block[STATE],
-        address,
-        waiting: block[ASYNC_MARK],
-        word: block[ASYNC_WORD],
-    };
-    let outcome = schedule::step(place, block[PARITY], command, message);
+    let outcome = command(block);
     let after = outcome.place;
     block[STATE] = after.state;
     block[ADDRESS] = after.address;
