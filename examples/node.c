@@ -1,14 +1,14 @@
 /*
  * A dome node: it takes attitude words from one ARINC 429 channel, sends them on to the projectors by a schedule on a second, and keeps the
  * last words of the line on a third. For three frames the node is late and reads nothing: the FIFO fills and arrivals are lost, and the
- * outcomes, the status and the counts of fates tell so.
+ * tally of outcomes, the status and the counts of fates tell so. With the name of a file as its argument the node records the session there.
  *
  * Build: cc -std=c99 -Iinclude examples/node.c target/staticlib/libhost.a
  */
 #include <stdio.h>
 #include <stdlib.h>
 
-#include "nqabelihu.h"
+#include "nqabelihu_record.h"
 
 enum { ATTITUDE = 1, PROJECTORS = 2, RECORDER = 3, CHANNELS = 3 };
 enum { PITCH = 0324, ROLL = 0325, HEADING = 0314, ALTITUDE = 0203, DISCRETES = 0270 };
@@ -28,35 +28,19 @@ static const angle angles[ANGLES] = {{PITCH, "pitch angle", 14}, {ROLL, "roll an
 static uint32_t words[NQABELIHU_WORDS(CHANNELS)];
 static nqabelihu_memory module_memory = {words, NQABELIHU_WORDS(CHANNELS)};
 
-/* What the line has brought so far on the attitude channel, filtered words aside. */
-static uint32_t offered;
+/* What became of the words that the line has brought so far, for each receiving channel. */
+static nqabelihu_tally tallies[CHANNELS + 1];
 
 /* A refusal in this loop is a fault of the loop: say which call, and end. */
-static void done(uint32_t number, const char *call)
+static void done(nqabelihu_refusal refusal, const char *call)
 {
-    if (number != NQABELIHU_DONE) {
-        printf("%s: refused with %u\n", call, (unsigned)number);
+    if (refusal != NQABELIHU_DONE) {
+        printf("%s: refused with %u, %s\n", call, (unsigned)refusal, nqabelihu_refusal_text(refusal));
         exit(1);
     }
 }
 
 /* ---- ARINC 429 words ---- */
-
-/* The SDI/Label index: the label's low byte, first bit highest, and the SDI in bits 9 and 10. */
-static uint32_t index_of(uint32_t label, uint32_t sdi)
-{
-    return nqabelihu_label(label) + sdi * 256;
-}
-
-static uint32_t with_odd_parity(uint32_t word)
-{
-    uint32_t ones = 0;
-    int bit;
-    word &= 0x7FFFFFFF;
-    for (bit = 0; bit < 31; bit++)
-        ones += word >> bit & 1;
-    return ones % 2 == 1 ? word : word | 0x80000000;
-}
 
 static int32_t rounded(int32_t n, int32_t d)
 {
@@ -68,7 +52,7 @@ static uint32_t angle_word(const angle *a, uint32_t sdi, int32_t hundredths)
 {
     uint32_t units = (uint32_t)rounded(hundredths * (1 << a->bits), 18000);
     uint32_t data = (units & ((2u << a->bits) - 1)) << (28 - a->bits);
-    return with_odd_parity(index_of(a->label, sdi) | data | 3u << 29);
+    return nqabelihu_with_odd_parity(nqabelihu_index_of_label(a->label, sdi) | data | 3u << 29);
 }
 
 static int32_t angle_in(const angle *a, uint32_t word)
@@ -89,20 +73,20 @@ static void print_degrees(int32_t hundredths)
 
 static void print_status(uint32_t status)
 {
-    static const char *names[] = {"almost full", "full", "almost empty", "empty", "parity error", "interrupt", "fault"};
-    int bit, some = 0;
+    uint32_t condition;
+    int some = 0;
     printf("status:");
-    for (bit = 0; bit < 7; bit++)
-        if (status >> bit & 1)
-            printf("%s %s", some++ ? "," : "", names[bit]);
+    for (condition = 1; condition <= NQABELIHU_ALL_CONDITIONS; condition *= 2)
+        if (status & condition)
+            printf("%s %s", some++ ? "," : "", nqabelihu_condition_text((nqabelihu_condition)condition));
     printf("%s\n", some ? "" : " nothing latched");
 }
 
 /* ---- set up ---- */
 
-static void set(uint32_t channel, uint32_t setting, uint32_t value)
+static void set(uint32_t channel, nqabelihu_setting setting, uint32_t value)
 {
-    done(nqabelihu_write_setting(module_memory, channel, setting, value), "write setting");
+    done(nqabelihu_write_setting(module_memory, channel, setting, value), nqabelihu_setting_text(setting));
 }
 
 static void set_up(void)
@@ -120,14 +104,14 @@ static void set_up(void)
 
     /* The attitude receiver: three labels of one source, a FIFO of two frames, and an interrupt when it is full or parity is wrong. */
     for (at = 0; at < ANGLES; at++)
-        done(nqabelihu_write_match(module_memory, ATTITUDE, index_of(angles[at].label, FROM_AIRCRAFT), 1), "write match");
-    set(ATTITUDE, NQABELIHU_MATCH, 1);
-    set(ATTITUDE, NQABELIHU_STAMPS, 1);
-    set(ATTITUDE, NQABELIHU_RECEIVE_SIZE, 2 * ANGLES);
-    set(ATTITUDE, NQABELIHU_ALMOST_FULL, 2 * ANGLES - 1);
-    done(nqabelihu_write_enable(module_memory, ATTITUDE, NQABELIHU_IS_FULL + NQABELIHU_IS_PARITY_ERROR), "write enable");
-    done(nqabelihu_write_level_mask(module_memory, ATTITUDE, NQABELIHU_IS_FULL), "write level mask");
-    set(ATTITUDE, NQABELIHU_RECEIVER, 1);
+        done(nqabelihu_write_match(module_memory, ATTITUDE, nqabelihu_at_label(angles[at].label, FROM_AIRCRAFT), 1), "write match");
+    set(ATTITUDE, NQABELIHU_SETTING_MATCH, 1);
+    set(ATTITUDE, NQABELIHU_SETTING_STAMPS, 1);
+    set(ATTITUDE, NQABELIHU_SETTING_RECEIVE_SIZE, 2 * ANGLES);
+    set(ATTITUDE, NQABELIHU_SETTING_ALMOST_FULL, 2 * ANGLES - 1);
+    done(nqabelihu_write_enable(module_memory, ATTITUDE, NQABELIHU_CONDITION_FULL + NQABELIHU_CONDITION_PARITY_ERROR), "write enable");
+    done(nqabelihu_write_level_mask(module_memory, ATTITUDE, NQABELIHU_CONDITION_FULL), "write level mask");
+    set(ATTITUDE, NQABELIHU_SETTING_RECEIVER, 1);
     printf("channel 1: attitude receiver, bounded FIFO of %u, labels 324 325 314 of SDI 1\n", (unsigned)(2 * ANGLES));
 
     /* The projectors' transmitter: a schedule of three words, run once in a frame. */
@@ -137,20 +121,28 @@ static void set_up(void)
     done(nqabelihu_write_message(module_memory, PROJECTORS, 4, 200), "write message");
     for (at = 0; at < ANGLES; at++)
         done(nqabelihu_write_message(module_memory, PROJECTORS, at, angle_word(&angles[at], TO_PROJECTORS, 0)), "write message");
-    set(PROJECTORS, NQABELIHU_TRANSMIT_MODE, NQABELIHU_SCHEDULED);
-    done(nqabelihu_write_enable(module_memory, PROJECTORS, NQABELIHU_IS_INTERRUPT), "write enable");
-    set(PROJECTORS, NQABELIHU_TRANSMITTER, 1);
+    set(PROJECTORS, NQABELIHU_SETTING_TRANSMIT_MODE, NQABELIHU_TRANSMIT_MODE_SCHEDULED);
+    done(nqabelihu_write_enable(module_memory, PROJECTORS, NQABELIHU_CONDITION_INTERRUPT), "write enable");
+    set(PROJECTORS, NQABELIHU_SETTING_TRANSMITTER, 1);
     printf("channel 2: projectors' transmitter, schedule of %u commands\n", (unsigned)(sizeof commands / sizeof commands[0]));
 
     /* The recorder: the last four words of the line, whatever they are. */
-    set(RECORDER, NQABELIHU_RECEIVE_SIZE, 4);
-    set(RECORDER, NQABELIHU_FIFO_KIND, NQABELIHU_CIRCULAR);
-    set(RECORDER, NQABELIHU_STAMPS, 1);
-    set(RECORDER, NQABELIHU_RECEIVER, 1);
+    set(RECORDER, NQABELIHU_SETTING_RECEIVE_SIZE, 4);
+    set(RECORDER, NQABELIHU_SETTING_FIFO_KIND, NQABELIHU_FIFO_KIND_CIRCULAR);
+    set(RECORDER, NQABELIHU_SETTING_STAMPS, 1);
+    set(RECORDER, NQABELIHU_SETTING_RECEIVER, 1);
     printf("channel 3: recorder, circular FIFO of 4\n");
 }
 
 /* ---- one frame ---- */
+
+/* A word of the line on a receiving channel: its outcome goes into the channel's tally. */
+static void arrives(uint32_t channel, uint32_t word)
+{
+    nqabelihu_outcome outcome;
+    done(nqabelihu_arrive(module_memory, channel, word, &outcome), "arrive");
+    nqabelihu_tally_outcome(&tallies[channel], outcome);
+}
 
 /* The line: the aircraft's simulation sends three angles and the altitude. In frame 3 a bit of the roll word is wrong. */
 static void line_brings(uint32_t frame)
@@ -158,8 +150,8 @@ static void line_brings(uint32_t frame)
     int32_t now = (int32_t)frame;
     int32_t flown[ANGLES];
     uint32_t line[ANGLES + 1];
-    uint32_t at, outcome, kept;
-    uint32_t outcomes[5] = {0, 0, 0, 0, 0};
+    uint32_t at;
+    nqabelihu_tally before = tallies[ATTITUDE];
 
     flown[0] = 250 + 30 * now;
     flown[1] = 150 - 100 * now;
@@ -168,16 +160,14 @@ static void line_brings(uint32_t frame)
         line[at] = angle_word(&angles[at], FROM_AIRCRAFT, flown[at]);
     if (frame == 3)
         line[1] ^= 1u << 20;
-    line[ANGLES] = with_odd_parity(index_of(ALTITUDE, FROM_AIRCRAFT) | (2500 + 10 * frame) << 11 | 3u << 29);
+    line[ANGLES] = nqabelihu_with_odd_parity(nqabelihu_index_of_label(ALTITUDE, FROM_AIRCRAFT) | (2500 + 10 * frame) << 11 | 3u << 29);
 
     for (at = 0; at <= ANGLES; at++) {
-        done(nqabelihu_arrive(module_memory, ATTITUDE, line[at], &outcome), "arrive");
-        outcomes[outcome]++;
-        done(nqabelihu_arrive(module_memory, RECORDER, line[at], &kept), "arrive");
+        arrives(ATTITUDE, line[at]);
+        arrives(RECORDER, line[at]);
     }
-    offered += ANGLES;
-    printf("  line        %u appended, %u dropped, %u filtered\n", (unsigned)outcomes[NQABELIHU_APPENDED],
-           (unsigned)outcomes[NQABELIHU_DROPPED], (unsigned)outcomes[NQABELIHU_FILTERED]);
+    printf("  line        %u appended, %u dropped, %u filtered\n", (unsigned)(tallies[ATTITUDE].appended - before.appended),
+           (unsigned)(tallies[ATTITUDE].dropped - before.dropped), (unsigned)(tallies[ATTITUDE].filtered - before.filtered));
 }
 
 static const angle *angle_of(uint32_t word)
@@ -192,24 +182,26 @@ static const angle *angle_of(uint32_t word)
 /* Reads the attitude FIFO until it is empty. A good word goes into the schedule, with the projectors' SDI. */
 static void read_attitude(void)
 {
-    nqabelihu_entry entry;
+    nqabelihu_entry entries[2 * ANGLES];
+    size_t count, at;
     uint32_t now;
     done(nqabelihu_read_stamp(module_memory, &now), "read stamp");
-    while (nqabelihu_read_receive_fifo(module_memory, ATTITUDE, &entry) == NQABELIHU_DONE) {
-        const angle *a = angle_of(entry.word);
+    done(nqabelihu_drain_receive_fifo(module_memory, ATTITUDE, entries, 2 * ANGLES, &count), "drain receive FIFO");
+    for (at = 0; at < count; at++) {
+        uint32_t word = entries[at].word;
+        const angle *a = angle_of(word);
         if (a == NULL)
             continue;
-        printf("  received    label %o SDI %u word %08x  %-12s ", (unsigned)a->label, (unsigned)(entry.word / 256 % 4),
-               (unsigned)entry.word, a->name);
-        if (entry.status & NQABELIHU_PARITY_WRONG) {
+        printf("  received    label %o SDI %u word %08x  %-12s ", (unsigned)a->label, (unsigned)nqabelihu_sdi(word), (unsigned)word, a->name);
+        if (entries[at].status & NQABELIHU_ENTRY_PARITY_ERROR) {
             printf("parity error, not used\n");
             continue;
         }
-        print_degrees(angle_in(a, entry.word));
-        if (now != entry.stamp)
-            printf(", %u ticks old", (unsigned)(now - entry.stamp));
+        print_degrees(angle_in(a, word));
+        if (now != entries[at].stamp)
+            printf(", %u ticks old", (unsigned)(now - entries[at].stamp));
         printf("\n");
-        done(nqabelihu_write_message(module_memory, PROJECTORS, (uint32_t)(a - angles), angle_word(a, TO_PROJECTORS, angle_in(a, entry.word))),
+        done(nqabelihu_write_message(module_memory, PROJECTORS, (uint32_t)(a - angles), angle_word(a, TO_PROJECTORS, angle_in(a, word))),
              "write message");
     }
 }
@@ -218,33 +210,34 @@ static void read_attitude(void)
 static void send_to_projectors(void)
 {
     nqabelihu_output output;
-    uint32_t sent = 0;
+    uint32_t sent = 0, time = 0;
     printf("  projectors ");
     done(nqabelihu_trigger(module_memory, PROJECTORS), "trigger");
     while (!sent) {
         done(nqabelihu_step(module_memory, PROJECTORS, &output), "step");
         switch (output.form) {
-        case NQABELIHU_MESSAGE:
+        case NQABELIHU_FORM_MESSAGE:
             printf(" %08x", (unsigned)output.x);
             break;
-        case NQABELIHU_NULL_TIME:
+        case NQABELIHU_FORM_NULL_TIME:
             printf(" null %u", (unsigned)output.x);
             break;
-        case NQABELIHU_ASYNC:
+        case NQABELIHU_FORM_ASYNC:
             printf(" null %u async %08x null %u", (unsigned)output.x, (unsigned)output.y, (unsigned)output.z);
             break;
         default:
             break;
         }
+        time += nqabelihu_output_bit_times(output);
         done(nqabelihu_read_pending(module_memory, PROJECTORS, &sent), "read pending");
     }
     done(nqabelihu_step(module_memory, PROJECTORS, &output), "step");
-    done(nqabelihu_clear_latch(module_memory, PROJECTORS, NQABELIHU_IS_INTERRUPT), "clear latch");
-    printf("\n");
+    done(nqabelihu_clear_latch(module_memory, PROJECTORS, NQABELIHU_CONDITION_INTERRUPT), "clear latch");
+    printf(", %u bit times\n", (unsigned)time);
 }
 
-/* Every entry has a fate: accepted = read + cleared + overwritten + held, modulo 2^32. */
-static nqabelihu_counts check_fates(const char *name, uint32_t channel)
+/* Every entry has a fate, accepted = read + cleared + overwritten + held, modulo 2^32, and every word of the line an outcome. */
+static void check_fates(const char *name, uint32_t channel)
 {
     nqabelihu_counts counts;
     uint32_t held;
@@ -256,18 +249,20 @@ static nqabelihu_counts check_fates(const char *name, uint32_t channel)
         printf(": an entry has no fate\n");
         exit(1);
     }
-    return counts;
+    if (!nqabelihu_tally_agrees(&tallies[channel], &counts)) {
+        printf(": a word of the line has no outcome\n");
+        exit(1);
+    }
 }
 
 static void check_channels(void)
 {
-    nqabelihu_counts counts;
     uint32_t status, pending;
 
     done(nqabelihu_sample(module_memory, ATTITUDE, 0), "sample");
-    counts = check_fates("attitude", ATTITUDE);
-    if (offered != counts.receive_accepted)
-        printf(", LOST %u of %u", (unsigned)(offered - counts.receive_accepted), (unsigned)offered);
+    check_fates("attitude", ATTITUDE);
+    if (nqabelihu_tally_lost(&tallies[ATTITUDE]) != 0)
+        printf(", LOST %u of %u", (unsigned)nqabelihu_tally_lost(&tallies[ATTITUDE]), (unsigned)tallies[ATTITUDE].offered);
     done(nqabelihu_read_status(module_memory, ATTITUDE, &status), "read status");
     done(nqabelihu_read_pending(module_memory, ATTITUDE, &pending), "read pending");
     printf("; %s", pending ? "INTERRUPT, " : "");
@@ -278,11 +273,21 @@ static void check_channels(void)
     printf("\n");
 }
 
-int main(void)
+int main(int argc, char **argv)
 {
-    nqabelihu_entry entry;
+    nqabelihu_entry kept[4];
+    size_t count, at;
     uint32_t frame;
+    FILE *session = NULL;
 
+    if (argc > 1) {
+        session = fopen(argv[1], "wb");
+        if (session == NULL) {
+            printf("%s: cannot be written\n", argv[1]);
+            return 1;
+        }
+        nqabelihu_record(module_memory, session);
+    }
     set_up();
     for (frame = 1; frame <= FRAMES; frame++) {
         int late = 4 <= frame && frame <= 6;
@@ -294,12 +299,20 @@ int main(void)
         else
             read_attitude();
         if (frame == 2) /* the dome's discretes, once: sent in the schedule's long gap */
-            done(nqabelihu_write_async(module_memory, PROJECTORS, index_of(DISCRETES, TO_PROJECTORS) | 1u << 10), "write async");
+            done(nqabelihu_write_async(module_memory, PROJECTORS, nqabelihu_index_of_label(DISCRETES, TO_PROJECTORS) | 1u << 10), "write async");
         send_to_projectors();
         check_channels();
     }
     printf("the last words of the line, from the recorder\n");
-    while (nqabelihu_read_receive_fifo(module_memory, RECORDER, &entry) == NQABELIHU_DONE)
-        printf("  stamp %u  label %o  word %08x\n", (unsigned)entry.stamp, (unsigned)nqabelihu_label(entry.word), (unsigned)entry.word);
+    done(nqabelihu_drain_receive_fifo(module_memory, RECORDER, kept, 4, &count), "drain receive FIFO");
+    for (at = 0; at < count; at++)
+        printf("  stamp %u  label %o  word %08x\n", (unsigned)kept[at].stamp, (unsigned)nqabelihu_label(kept[at].word), (unsigned)kept[at].word);
+    if (session != NULL) {
+        nqabelihu_record(module_memory, NULL);
+        if (fclose(session) != 0 || nqabelihu_record_lost() != 0) {
+            printf("%s: the session is not recorded whole\n", argv[1]);
+            return 1;
+        }
+    }
     return 0;
 }

@@ -1,35 +1,54 @@
 /*
  * nqabelihu.h: the C interface of a software ARINC 429 channel module.
  *
- * The library behind it (libhost.a) is written in Rattle and proved: for any memory and any numbers each call is refused by the number in
- * the table below, or does exactly what docs/CALLS.md says of it. It holds no state, allocates nothing, starts no thread, and of the C library
- * it calls memset alone. A module is the memory that you lend.
+ * The library behind it is written in Rattle and proved: for any memory and any numbers each call is refused by a number of the table below, or
+ * does exactly what docs/CALLS.md says of it. It holds no state, allocates nothing, starts no thread, and of the C library it calls memset alone.
+ * A module is the memory that you lend.
  *
- * Ten lines that receive a word:
+ * A word received:
  *
  *     static uint32_t words[NQABELIHU_WORDS(1)];
  *     nqabelihu_memory module = { words, NQABELIHU_WORDS(1) };
- *     uint32_t outcome;
+ *     nqabelihu_outcome outcome;
  *     nqabelihu_entry entry;
  *
- *     nqabelihu_power_up(module, 1);
- *     nqabelihu_write_setting(module, 1, NQABELIHU_RECEIVER, 1);
- *     nqabelihu_arrive(module, 1, 0x6000012B, &outcome);
- *     if (nqabelihu_read_receive_fifo(module, 1, &entry) == NQABELIHU_DONE)
+ *     if (nqabelihu_power_up(module, 1) == NQABELIHU_DONE
+ *         && nqabelihu_write_setting(module, 1, NQABELIHU_SETTING_RECEIVER, 1) == NQABELIHU_DONE
+ *         && nqabelihu_arrive(module, 1, 0x6000012B, &outcome) == NQABELIHU_DONE
+ *         && nqabelihu_read_receive_fifo(module, 1, &entry) == NQABELIHU_DONE)
  *         printf("label %o, word %08x\n", (unsigned)nqabelihu_label(entry.word), (unsigned)entry.word);
  *
- * Build: `rt staticlib host` writes target/staticlib/libhost.a; then `cc -Iinclude program.c target/staticlib/libhost.a`.
- * The archive is for x86-64. This header is C99 and C++.
+ * Build: `./install PREFIX`, then `cc program.c $(pkg-config --cflags --libs nqabelihu)`; or, in the repository, `rt staticlib host` and
+ * `cc -Iinclude program.c target/staticlib/libhost.a`. The library is for x86-64 Linux. This header is C99 and C++11.
  *
  * Rules that the proof takes for granted, and that you have to keep:
  *
  *   - A lent part is passed as a pointer and a number of 32-bit words. The pointer is that of an array of at least so many words, aligned
  *     for uint32_t. With 0 words it may be null: nothing is read or written through it.
  *   - The memory and the words lent for the values do not overlap. (The functions below by name lend an array of their own for the values.)
- *   - Nobody else reads or writes the lent words during a call: lend a module to one thread at a time.
+ *   - Nobody else reads or writes the lent words during a call. So two modules, each with memory of its own, may run on two threads at once;
+ *     two channels of one module may not: lend a module to one thread at a time.
  *   - Lend a module's memory from its first word on. Between calls it is yours to copy, save and compare. Whatever you put there is never
  *     undefined behaviour: a call that meets a stored number outside its range, in the module part or on its channel (module-wide: on any
- *     channel), is refused with NQABELIHU_UNSOUND; power-up writes every needed word anew.
+ *     channel), is refused with NQABELIHU_REFUSED_UNSOUND; power-up writes every needed word anew.
+ *
+ * +-- How a host sees every loss ----------------------------------------------------------------------------------------------------------+
+ * | A full bounded FIFO drops the arrival, a full circular one overwrites its oldest entry. The counts of fates tell of the overwritten    |
+ * | only (a dropped arrival was never accepted), and condition "full" latches, by edge, when the FIFO becomes full: with the latch cleared |
+ * | while it is still full, further losses leave the status at 0. So:                                                                      |
+ * |   1. look at every arrival's outcome: NQABELIHU_OUTCOME_DROPPED and NQABELIHU_OUTCOME_OVERWRITING are a word lost each. A              |
+ * |      nqabelihu_tally counts them for a channel, and nqabelihu_tally_agrees holds it against the counts of fates;                       |
+ * |   2. let condition "full" latch by level (nqabelihu_write_level_mask with NQABELIHU_CONDITION_FULL): every call on the channel then    |
+ * |      latches it for as long as the FIFO is full, and where its bit is 0 no word was lost since it was last cleared;                    |
+ * |   3. look at every call's result: an arrival that was refused reached no FIFO.                                                         |
+ * +----------------------------------------------------------------------------------------------------------------------------------------+
+ *
+ * Time is the host's. A step of the transmitter does not advance the module's stamp: nqabelihu_output_bit_times says how long the step's output
+ * takes on the line, and the host turns bit times (10 microseconds each at 100 kbit/s, 80 at 12.5) into ticks of its own and hands them to
+ * nqabelihu_advance_stamp.
+ *
+ * A schedule that has ended gives quiet, as one that pauses does. Put an interrupt command before the stop: it signals
+ * NQABELIHU_CONDITION_INTERRUPT, which nqabelihu_read_status shows, and nqabelihu_read_pending where it is enabled. The step behind it is the stop.
  */
 #ifndef NQABELIHU_H
 #define NQABELIHU_H
@@ -37,26 +56,51 @@
 #include <stddef.h>
 #include <stdint.h>
 
+/* The version of this header; nqabelihu_version() is that of the library that is linked. */
+#define NQABELIHU_VERSION_MAJOR 0
+#define NQABELIHU_VERSION_MINOR 1
+#define NQABELIHU_VERSION_PATCH 0
+#define NQABELIHU_VERSION (10000 * NQABELIHU_VERSION_MAJOR + 100 * NQABELIHU_VERSION_MINOR + NQABELIHU_VERSION_PATCH)
+
+/* A result that has to be looked at: gcc and clang warn of a call that throws it away. */
+#if defined(__GNUC__)
+#define NQABELIHU_LOOK __attribute__((warn_unused_result))
+#else
+#define NQABELIHU_LOOK
+#endif
+
 #ifdef __cplusplus
 extern "C" {
 #endif
 
-/* ---- the three functions of the library ---- */
+/* ---- the functions of the library ---- */
 
 /* The words of memory that a module of `count` channels needs; 0 where count is not 1 to 12. */
 size_t nqabelihu_words(uint32_t count);
-
-/* The label of a word, bits 1 to 8: print it in octal. The word's low byte for a label is nqabelihu_label(label). */
-uint32_t nqabelihu_label(uint32_t word);
 
 /*
  * One call on a module's memory, given by four numbers: the op, the channel from 1, and two arguments; numbers that an op does not use are
  * ignored. The result is the answer's number. `values` takes the answer's values in its first seven words, zeros where there are fewer and
  * beside a refusal; words behind the seventh are left alone. With fewer than seven words lent for the values the result is
- * NQABELIHU_FEW_VALUES and nothing is written.
+ * NQABELIHU_REFUSED_FEW_VALUES and nothing is written.
  */
-uint32_t nqabelihu_perform(uint32_t *memory, size_t words, uint32_t *values, size_t places, uint32_t op, uint32_t channel, uint32_t a,
-                           uint32_t b);
+NQABELIHU_LOOK uint32_t nqabelihu_perform(uint32_t *memory, size_t words, uint32_t *values, size_t places, uint32_t op, uint32_t channel,
+                                          uint32_t a, uint32_t b);
+
+/* The version of the library, as NQABELIHU_VERSION is written. */
+uint32_t nqabelihu_version(void);
+
+/* -- the fields of a word; any number is taken -- */
+
+uint32_t nqabelihu_label(uint32_t word);           /* bits 1 to 8: print it in octal */
+uint32_t nqabelihu_sdi(uint32_t word);             /* bits 9 and 10, the source/destination identifier */
+uint32_t nqabelihu_data_bits(uint32_t word);       /* bits 11 to 29 */
+uint32_t nqabelihu_sign_status(uint32_t word);     /* bits 30 and 31, the sign/status matrix */
+uint32_t nqabelihu_with_odd_parity(uint32_t word); /* the word with bit 32 set or cleared so that the count of ones is odd */
+
+uint32_t nqabelihu_low_byte(uint32_t label);                     /* the low byte of the words that have a label (its low eight bits count) */
+uint32_t nqabelihu_index_of_word(uint32_t word);                 /* the SDI/Label index: the word modulo 1024 */
+uint32_t nqabelihu_index_of_label(uint32_t label, uint32_t sdi); /* that of the words that have this label and SDI (its low two bits count) */
 
 /* ---- sizes ---- */
 
@@ -66,159 +110,180 @@ enum {
     NQABELIHU_CHANNEL_WORDS = 4666, /* each channel */
     NQABELIHU_FIFO_ENTRIES = 255,   /* the most that a FIFO holds */
     NQABELIHU_MAILBOXES = 1024,     /* mailboxes, and places of the match set: one for each SDI/Label index */
-    NQABELIHU_RAM_WORDS = 256,      /* schedule RAM and message RAM, each */
-    NQABELIHU_VALUES = 7            /* the words that nqabelihu_perform asks for the values */
+    NQABELIHU_SCHEDULE_WORDS = 256, /* commands of the schedule RAM: addresses from 0 to one less */
+    NQABELIHU_MESSAGE_WORDS = 256,  /* words of the message RAM, likewise */
+    NQABELIHU_SETTINGS = 12,        /* settings of a channel */
+    NQABELIHU_VALUES = 7,           /* the words that nqabelihu_perform asks for the values */
+    NQABELIHU_WORD_BIT_TIMES = 32   /* the time that a word takes on the line */
 };
 
 /* nqabelihu_words for a count of 1 to 12 as a constant, for an array. */
-#define NQABELIHU_WORDS(count) ((size_t)NQABELIHU_MODULE_WORDS + (size_t)(count) * NQABELIHU_CHANNEL_WORDS)
+#define NQABELIHU_WORDS(count) ((size_t)NQABELIHU_MODULE_WORDS + (size_t)(count) * (size_t)NQABELIHU_CHANNEL_WORDS)
 
-/* ---- the answer's number; 1 to 7 are tested in this order, behind 24 and then 42: the first that applies is given ---- */
+/*
+ * ---- tables: a name, its number and its text ----
+ *
+ * Each is an enum type and a function that gives the text of a number (nqabelihu_refusal_text and the like, further below). Hosts write the names;
+ * a program that wants all the rows hands a macro of its own to the table.
+ */
 
-enum {
-    NQABELIHU_DONE = 0,
-    NQABELIHU_SHORT = 1,       /* fewer words lent than the module needs */
-    NQABELIHU_UNSOUND = 2,     /* a stored number is outside its range */
-    NQABELIHU_CHANNEL = 3,     /* channel number outside 1 to the stored count */
-    NQABELIHU_RANGE = 4,       /* an argument outside its range */
-    NQABELIHU_MODE = 5,        /* not allowed in the present setting */
-    NQABELIHU_FULL = 6,        /* transmit FIFO holds 255, or an async word already waits */
-    NQABELIHU_EMPTY = 7,       /* receive FIFO holds none */
-    NQABELIHU_FEW_VALUES = 24, /* fewer than seven words lent for the values */
-    NQABELIHU_NO_CALL = 42     /* the op is no call */
-};
+#define NQABELIHU_CASE(number, result) \
+    case number:                       \
+        return result;
+#define NQABELIHU_ROW_NAME(name, number, text) name = number,
+#define NQABELIHU_ROW_TEXT(name, number, text) NQABELIHU_CASE(number, text)
 
-/* ---- settings of a channel: ranges and factory values ---- */
+/* The answer's number. 1 to 7 are tested in this order, behind 24 and then 42: the first that applies is given. */
+#define NQABELIHU_REFUSAL_TABLE(ROW)                                                          \
+    ROW(NQABELIHU_DONE, 0, "done")                                                            \
+    ROW(NQABELIHU_REFUSED_SHORT, 1, "fewer words lent than the module needs")                 \
+    ROW(NQABELIHU_REFUSED_UNSOUND, 2, "a stored number is outside its range")                 \
+    ROW(NQABELIHU_REFUSED_CHANNEL, 3, "channel number outside 1 to the stored count")         \
+    ROW(NQABELIHU_REFUSED_RANGE, 4, "an argument outside its range")                          \
+    ROW(NQABELIHU_REFUSED_MODE, 5, "not allowed in the present setting")                      \
+    ROW(NQABELIHU_REFUSED_FULL, 6, "transmit FIFO holds 255, or an async word already waits") \
+    ROW(NQABELIHU_REFUSED_EMPTY, 7, "receive FIFO holds none")                                \
+    ROW(NQABELIHU_REFUSED_FEW_VALUES, 24, "fewer than seven words lent for the values")       \
+    ROW(NQABELIHU_REFUSED_NO_CALL, 42, "the op is no call")
 
-enum {
-    NQABELIHU_RECEIVER = 0,      /* 0 off, 1 on; factory 0 */
-    NQABELIHU_TRANSMITTER = 1,   /* 0 off, 1 on; factory 0 */
-    NQABELIHU_PARITY = 2,        /* 0 off (ARINC 575 data), 1 on; factory 1 */
-    NQABELIHU_MATCH = 3,         /* 0 off, 1 on: only indices of the match set are received; factory 0 */
-    NQABELIHU_STAMPS = 4,        /* 0 off, 1 on; factory 0 */
-    NQABELIHU_RECEIVE_MODE = 5,  /* a receive mode below; factory FIFO */
-    NQABELIHU_FIFO_KIND = 6,     /* a FIFO kind below; factory bounded */
-    NQABELIHU_TRANSMIT_MODE = 7, /* a transmit mode below; factory immediate */
-    NQABELIHU_RECEIVE_SIZE = 8,  /* 1 to 255 entries; factory 255 */
-    NQABELIHU_ALMOST_FULL = 9,   /* 0 to 255; factory 128 */
-    NQABELIHU_ALMOST_EMPTY = 10, /* 0 to 255; factory 32 */
-    NQABELIHU_RATE = 11,         /* gap behind a FIFO word, 4 to 1048575 bit times; factory 4 */
-    NQABELIHU_SETTINGS = 12      /* how many settings there are */
-};
+typedef enum { NQABELIHU_REFUSAL_TABLE(NQABELIHU_ROW_NAME) } nqabelihu_refusal;
 
-enum { NQABELIHU_FIFO = 0, NQABELIHU_MAILBOX = 1 };                                /* receive modes */
-enum { NQABELIHU_BOUNDED = 0, NQABELIHU_CIRCULAR = 1 };                            /* FIFO kinds: a full one drops, or overwrites the oldest */
-enum { NQABELIHU_IMMEDIATE = 0, NQABELIHU_TRIGGERED = 1, NQABELIHU_SCHEDULED = 2 }; /* transmit modes */
+/* Settings of a channel. A setting's number is the op that writes it, so that a setting and a channel, exchanged, are refused. */
+#define NQABELIHU_SETTING_TABLE(ROW)                                                                                       \
+    ROW(NQABELIHU_SETTING_RECEIVER, 32, "receiver")                   /* 0 off, 1 on; factory 0 */                         \
+    ROW(NQABELIHU_SETTING_TRANSMITTER, 33, "transmitter")             /* 0 off, 1 on; factory 0 */                         \
+    ROW(NQABELIHU_SETTING_PARITY, 34, "parity")                       /* 0 off (ARINC 575 data), 1 on; factory 1 */        \
+    ROW(NQABELIHU_SETTING_MATCH, 35, "match")                         /* 0 off, 1 on: by the match set alone; factory 0 */ \
+    ROW(NQABELIHU_SETTING_STAMPS, 36, "stamps")                       /* 0 off, 1 on; factory 0 */                         \
+    ROW(NQABELIHU_SETTING_RECEIVE_MODE, 37, "receive mode")           /* a receive mode below; factory FIFO */             \
+    ROW(NQABELIHU_SETTING_FIFO_KIND, 38, "FIFO kind")                 /* a FIFO kind below; factory bounded */             \
+    ROW(NQABELIHU_SETTING_TRANSMIT_MODE, 39, "transmit mode")         /* a transmit mode below; factory immediate */       \
+    ROW(NQABELIHU_SETTING_RECEIVE_SIZE, 40, "receive FIFO size")      /* 1 to 255 entries; factory 255 */                  \
+    ROW(NQABELIHU_SETTING_ALMOST_FULL, 41, "almost full threshold")   /* 0 to 255; factory 128 */                          \
+    ROW(NQABELIHU_SETTING_ALMOST_EMPTY, 42, "almost empty threshold") /* 0 to 255; factory 32 */                           \
+    ROW(NQABELIHU_SETTING_RATE, 43, "transmit rate")                  /* gap behind a FIFO word, 4 to 1048575; factory 4 */
 
-/* ---- what became of an arriving word ---- */
+typedef enum { NQABELIHU_SETTING_TABLE(NQABELIHU_ROW_NAME) } nqabelihu_setting;
 
-enum {
-    NQABELIHU_IGNORED = 0,    /* the receiver is off */
-    NQABELIHU_FILTERED = 1,   /* its index is not in the match set */
-    NQABELIHU_APPENDED = 2,   /* entered the FIFO */
-    NQABELIHU_DROPPED = 3,    /* a bounded FIFO was full: the word is lost; in mailbox mode its mailbox has it, its index is not listed */
-    NQABELIHU_OVERWRITING = 4 /* entered a full circular FIFO: the oldest entry is lost */
-};
+/* Values of settings 37, 38 and 39. A full bounded FIFO drops the arrival, a full circular one overwrites its oldest entry. */
+typedef enum { NQABELIHU_RECEIVE_MODE_FIFO = 0, NQABELIHU_RECEIVE_MODE_MAILBOX = 1 } nqabelihu_receive_mode;
+typedef enum { NQABELIHU_FIFO_KIND_BOUNDED = 0, NQABELIHU_FIFO_KIND_CIRCULAR = 1 } nqabelihu_fifo_kind;
+typedef enum {
+    NQABELIHU_TRANSMIT_MODE_IMMEDIATE = 0,
+    NQABELIHU_TRANSMIT_MODE_TRIGGERED = 1,
+    NQABELIHU_TRANSMIT_MODE_SCHEDULED = 2
+} nqabelihu_transmit_mode;
 
-/* ---- bits of a received entry's status ---- */
+/* What became of an arriving word. In mailbox mode a mailbox has the word that was dropped, and its index is not listed. */
+#define NQABELIHU_OUTCOME_TABLE(ROW)                                                  \
+    ROW(NQABELIHU_OUTCOME_IGNORED, 0, "ignored: the receiver is off")                 \
+    ROW(NQABELIHU_OUTCOME_FILTERED, 1, "filtered: its index is not in the match set") \
+    ROW(NQABELIHU_OUTCOME_APPENDED, 2, "appended to the FIFO")                        \
+    ROW(NQABELIHU_OUTCOME_DROPPED, 3, "dropped: the bounded FIFO was full")           \
+    ROW(NQABELIHU_OUTCOME_OVERWRITING, 4, "appended to a full circular FIFO: the oldest is lost")
 
-enum {
-    NQABELIHU_PARITY_WRONG = 1, /* even count of ones */
-    NQABELIHU_NEW = 2           /* of a mailbox: not read since it was written */
-};
+typedef enum { NQABELIHU_OUTCOME_TABLE(NQABELIHU_ROW_NAME) } nqabelihu_outcome;
 
-/* ---- the form of a step's output, and what x, y and z are ---- */
+/* The form of a step's output; behind each, what x, y and z are. */
+#define NQABELIHU_FORM_TABLE(ROW)                                                                                          \
+    ROW(NQABELIHU_FORM_QUIET, 0, "quiet")                                        /* 0 0 0 */                               \
+    ROW(NQABELIHU_FORM_FIFO_WORD, 1, "a word of the FIFO and the gap behind it") /* word, bit times, 0 */                  \
+    ROW(NQABELIHU_FORM_MESSAGE, 2, "a word of the schedule, no gap")             /* word, 0, 0 */                          \
+    ROW(NQABELIHU_FORM_NULL_TIME, 3, "a gap")                                    /* bit times, 0, 0 */                     \
+    ROW(NQABELIHU_FORM_ASYNC, 4, "a gap with the async word in it")              /* 4 bit times, word, bit times behind */ \
+    ROW(NQABELIHU_FORM_RESERVED, 5, "a reserved command: the schedule is idle")  /* the command's address, 0, 0 */
 
-enum {
-    NQABELIHU_QUIET = 0,     /* nothing sent: 0 0 0 */
-    NQABELIHU_FIFO_WORD = 1, /* a word of the FIFO and the gap behind it: word, bit times, 0 */
-    NQABELIHU_MESSAGE = 2,   /* a word of the schedule, no gap: word, 0, 0 */
-    NQABELIHU_NULL_TIME = 3, /* a gap: bit times, 0, 0 */
-    NQABELIHU_ASYNC = 4,     /* a gap with the async word in it: 4 bit times, word, bit times behind it */
-    NQABELIHU_RESERVED = 5   /* a reserved command, the schedule is idle: the command's address, 0, 0 */
-};
+typedef enum { NQABELIHU_FORM_TABLE(NQABELIHU_ROW_NAME) } nqabelihu_form;
 
-/* ---- commands of the schedule RAM: a code, with the address that it names in its low bits ---- */
+/* Conditions, as bits of the status, the enable mask and the level mask: condition k is bit k. */
+#define NQABELIHU_CONDITION_TABLE(ROW)                                                                             \
+    ROW(NQABELIHU_CONDITION_ALMOST_FULL, 1, "receive FIFO almost full")    /* level at or above almost full */     \
+    ROW(NQABELIHU_CONDITION_FULL, 2, "receive FIFO full")                  /* level at size */                     \
+    ROW(NQABELIHU_CONDITION_ALMOST_EMPTY, 4, "transmit FIFO almost empty") /* level at or below almost empty */    \
+    ROW(NQABELIHU_CONDITION_EMPTY, 8, "transmit FIFO empty")                                                       \
+    ROW(NQABELIHU_CONDITION_PARITY_ERROR, 16, "parity error")              /* of a word that was received */       \
+    ROW(NQABELIHU_CONDITION_INTERRUPT, 32, "schedule interrupt")           /* the interrupt command */             \
+    ROW(NQABELIHU_CONDITION_FAULT, 64, "fault")                            /* counter above the fault threshold */
 
+typedef enum { NQABELIHU_CONDITION_TABLE(NQABELIHU_ROW_NAME) } nqabelihu_condition;
+enum { NQABELIHU_ALL_CONDITIONS = 127 };
+
+/* Bits of a received entry's status: an even count of ones; of a mailbox, not read since it was written. */
+enum { NQABELIHU_ENTRY_PARITY_ERROR = 1, NQABELIHU_ENTRY_NEW = 2 };
+
+/* Commands of the schedule RAM: a code, with the address that it names in its low bits. */
 enum {
     NQABELIHU_COMMAND_STOP = 0x0000,
     NQABELIHU_COMMAND_MESSAGE = 0x1000,   /* + message RAM address: sends the word there */
     NQABELIHU_COMMAND_GAP = 0x2000,       /* + message RAM address: null time of so many bit times */
     NQABELIHU_COMMAND_FIXED_GAP = 0x3000, /* the same, the async word is never sent in it */
     NQABELIHU_COMMAND_PAUSE = 0x4000,     /* the next command follows on a trigger */
-    NQABELIHU_COMMAND_INTERRUPT = 0x5000, /* signals NQABELIHU_IS_INTERRUPT */
+    NQABELIHU_COMMAND_INTERRUPT = 0x5000, /* signals NQABELIHU_CONDITION_INTERRUPT */
     NQABELIHU_COMMAND_JUMP = 0x6000       /* + schedule RAM address */
 };
 
-/* ---- conditions, as bits of the status, the enable mask and the level mask ---- */
-
-enum {
-    NQABELIHU_IS_ALMOST_FULL = 1,   /* 0: receive level at or above almost full */
-    NQABELIHU_IS_FULL = 2,          /* 1: receive level at size */
-    NQABELIHU_IS_ALMOST_EMPTY = 4,  /* 2: transmit level at or below almost empty */
-    NQABELIHU_IS_EMPTY = 8,         /* 3: transmit FIFO empty */
-    NQABELIHU_IS_PARITY_ERROR = 16, /* 4: a word with a parity error was received */
-    NQABELIHU_IS_INTERRUPT = 32,    /* 5: the schedule's interrupt command */
-    NQABELIHU_IS_FAULT = 64,        /* 6: fault counter above the fault threshold */
-    NQABELIHU_ALL_CONDITIONS = 127
-};
-
-/* ---- op codes of nqabelihu_perform ---- */
-
-enum {
-    NQABELIHU_OP_POWER_UP = 1,
-    NQABELIHU_OP_MODULE_RESET = 2,
-    NQABELIHU_OP_ADVANCE_STAMP = 3,
-    NQABELIHU_OP_ZERO_STAMP = 4,
-    NQABELIHU_OP_READ_STAMP = 5,
-    NQABELIHU_OP_WRITE_RESOLUTION = 6,
-    NQABELIHU_OP_READ_RESOLUTION = 7,
-    NQABELIHU_OP_WRITE_THRESHOLD = 8,
-    NQABELIHU_OP_READ_THRESHOLD = 9,
-    NQABELIHU_OP_WRITE_SETTING = 32, /* + the setting's number */
-    NQABELIHU_OP_READ_SETTING = 64,  /* + the setting's number */
-    NQABELIHU_OP_ARRIVE = 128,
-    NQABELIHU_OP_READ_RECEIVE_FIFO = 129,
-    NQABELIHU_OP_READ_MAILBOX = 130,
-    NQABELIHU_OP_WRITE_MATCH = 131,
-    NQABELIHU_OP_READ_MATCH = 132,
-    NQABELIHU_OP_WRITE_TRANSMIT_FIFO = 133,
-    NQABELIHU_OP_WRITE_ASYNC = 134,
-    NQABELIHU_OP_TRIGGER = 135,
-    NQABELIHU_OP_PAUSE = 136,
-    NQABELIHU_OP_STOP = 137,
-    NQABELIHU_OP_STEP = 138,
-    NQABELIHU_OP_WRITE_SCHEDULE = 139,
-    NQABELIHU_OP_READ_SCHEDULE = 140,
-    NQABELIHU_OP_WRITE_MESSAGE = 141,
-    NQABELIHU_OP_READ_MESSAGE = 142,
-    NQABELIHU_OP_SAMPLE = 143,
-    NQABELIHU_OP_RESET_TEST = 144,
-    NQABELIHU_OP_INITIATE_TEST = 145,
-    NQABELIHU_OP_READ_STATUS = 146,
-    NQABELIHU_OP_CLEAR_LATCH = 147,
-    NQABELIHU_OP_WRITE_ENABLE = 148,
-    NQABELIHU_OP_READ_ENABLE = 149,
-    NQABELIHU_OP_WRITE_LEVEL_MASK = 150,
-    NQABELIHU_OP_READ_LEVEL_MASK = 151,
-    NQABELIHU_OP_READ_PENDING = 152,
-    NQABELIHU_OP_READ_COUNTS = 153,
-    NQABELIHU_OP_READ_RECEIVE_LEVEL = 154,
-    NQABELIHU_OP_READ_TRANSMIT_LEVEL = 155,
-    NQABELIHU_OP_READ_ASYNC = 156
-};
-
-/* ---- every call by name ----
- *
- * Each gives the answer's number, NQABELIHU_DONE or a refusal. Beside a refusal every result is 0 and no word of the memory is changed.
- * Reads on a channel run the status rule too, and may set latch bits: the memory is never const. The pointers for results must not be null.
+/*
+ * Op codes of nqabelihu_perform, beside those of the settings: a setting's number is the op that writes it, and 32 more the one that reads it.
+ * The last column is how many values the answer has.
  */
+#define NQABELIHU_OP_NAME(name, number, text, values) name = number,
+#define NQABELIHU_OP_TEXT(name, number, text, values) NQABELIHU_CASE(number, text)
+#define NQABELIHU_OP_VALUES(name, number, text, values) NQABELIHU_CASE(number, values)
+#define NQABELIHU_OP_TABLE(ROW)                                          \
+    ROW(NQABELIHU_OP_POWER_UP, 1, "power up", 0)                         \
+    ROW(NQABELIHU_OP_MODULE_RESET, 2, "module reset", 0)                 \
+    ROW(NQABELIHU_OP_ADVANCE_STAMP, 3, "advance stamp", 0)               \
+    ROW(NQABELIHU_OP_ZERO_STAMP, 4, "zero stamp", 0)                     \
+    ROW(NQABELIHU_OP_READ_STAMP, 5, "read stamp", 1)                     \
+    ROW(NQABELIHU_OP_WRITE_RESOLUTION, 6, "write resolution", 0)         \
+    ROW(NQABELIHU_OP_READ_RESOLUTION, 7, "read resolution", 1)           \
+    ROW(NQABELIHU_OP_WRITE_THRESHOLD, 8, "write fault threshold", 0)     \
+    ROW(NQABELIHU_OP_READ_THRESHOLD, 9, "read fault threshold", 1)       \
+    ROW(NQABELIHU_OP_ARRIVE, 128, "arrive", 1)                           \
+    ROW(NQABELIHU_OP_READ_RECEIVE_FIFO, 129, "read receive FIFO", 3)     \
+    ROW(NQABELIHU_OP_READ_MAILBOX, 130, "read mailbox", 3)               \
+    ROW(NQABELIHU_OP_WRITE_MATCH, 131, "write match", 0)                 \
+    ROW(NQABELIHU_OP_READ_MATCH, 132, "read match", 1)                   \
+    ROW(NQABELIHU_OP_WRITE_TRANSMIT_FIFO, 133, "write transmit FIFO", 0) \
+    ROW(NQABELIHU_OP_WRITE_ASYNC, 134, "write async", 0)                 \
+    ROW(NQABELIHU_OP_TRIGGER, 135, "trigger", 0)                         \
+    ROW(NQABELIHU_OP_PAUSE, 136, "pause", 0)                             \
+    ROW(NQABELIHU_OP_STOP, 137, "stop", 0)                               \
+    ROW(NQABELIHU_OP_STEP, 138, "step", 4)                               \
+    ROW(NQABELIHU_OP_WRITE_SCHEDULE, 139, "write schedule", 0)           \
+    ROW(NQABELIHU_OP_READ_SCHEDULE, 140, "read schedule", 1)             \
+    ROW(NQABELIHU_OP_WRITE_MESSAGE, 141, "write message", 0)             \
+    ROW(NQABELIHU_OP_READ_MESSAGE, 142, "read message", 1)               \
+    ROW(NQABELIHU_OP_SAMPLE, 143, "sample", 0)                           \
+    ROW(NQABELIHU_OP_RESET_TEST, 144, "reset test", 0)                   \
+    ROW(NQABELIHU_OP_INITIATE_TEST, 145, "initiate test", 0)             \
+    ROW(NQABELIHU_OP_READ_STATUS, 146, "read status", 1)                 \
+    ROW(NQABELIHU_OP_CLEAR_LATCH, 147, "clear latch", 0)                 \
+    ROW(NQABELIHU_OP_WRITE_ENABLE, 148, "write enable", 0)               \
+    ROW(NQABELIHU_OP_READ_ENABLE, 149, "read enable", 1)                 \
+    ROW(NQABELIHU_OP_WRITE_LEVEL_MASK, 150, "write level mask", 0)       \
+    ROW(NQABELIHU_OP_READ_LEVEL_MASK, 151, "read level mask", 1)         \
+    ROW(NQABELIHU_OP_READ_PENDING, 152, "read pending", 1)               \
+    ROW(NQABELIHU_OP_READ_COUNTS, 153, "read counts", 7)                 \
+    ROW(NQABELIHU_OP_READ_RECEIVE_LEVEL, 154, "read receive level", 1)   \
+    ROW(NQABELIHU_OP_READ_TRANSMIT_LEVEL, 155, "read transmit level", 1) \
+    ROW(NQABELIHU_OP_READ_ASYNC, 156, "read async", 2)
+
+typedef enum { NQABELIHU_OP_TABLE(NQABELIHU_OP_NAME) } nqabelihu_op;
+enum { NQABELIHU_READ_SETTING = 32 }; /* + the setting: the op that reads it */
+
+/* ---- types ---- */
 
 /* A module's memory: the lent words, and how many. */
 typedef struct {
     uint32_t *words;
     size_t count;
 } nqabelihu_memory;
+
+/* An SDI/Label index, which picks a mailbox and a place of the match set. A type of its own, so that an octal label is not taken for one. */
+typedef struct {
+    uint32_t number;
+} nqabelihu_index;
 
 /* An entry of the receive FIFO or a mailbox; in mailbox mode a FIFO entry's word is an SDI/Label index. */
 typedef struct {
@@ -229,7 +294,7 @@ typedef struct {
 
 /* What one step of the transmitter gave: a form above, and what belongs to it. Words are as sent, after parity. */
 typedef struct {
-    uint32_t form;
+    nqabelihu_form form;
     uint32_t x;
     uint32_t y;
     uint32_t z;
@@ -247,261 +312,392 @@ typedef struct {
     uint32_t transmit_cleared;
 } nqabelihu_counts;
 
-/* A call with no result, and a call with one. */
-static inline uint32_t nqabelihu_do(nqabelihu_memory memory, uint32_t op, uint32_t channel, uint32_t a, uint32_t b)
+/* The index of the words that have a label and an SDI, and that of a word. */
+static inline nqabelihu_index nqabelihu_at_label(uint32_t label, uint32_t sdi)
 {
-    uint32_t values[NQABELIHU_VALUES];
-    return nqabelihu_perform(memory.words, memory.count, values, NQABELIHU_VALUES, op, channel, a, b);
+    nqabelihu_index index;
+    index.number = nqabelihu_index_of_label(label, sdi);
+    return index;
 }
 
-static inline uint32_t nqabelihu_get(nqabelihu_memory memory, uint32_t op, uint32_t channel, uint32_t a, uint32_t *result)
+static inline nqabelihu_index nqabelihu_at_word(uint32_t word)
+{
+    nqabelihu_index index;
+    index.number = nqabelihu_index_of_word(word);
+    return index;
+}
+
+/* ---- texts ---- */
+
+/* Of a number that is in no table. */
+#define NQABELIHU_NO_TEXT "unknown"
+
+static inline const char *nqabelihu_refusal_text(nqabelihu_refusal refusal)
+{
+    switch ((uint32_t)refusal) {
+        NQABELIHU_REFUSAL_TABLE(NQABELIHU_ROW_TEXT)
+    default:
+        return NQABELIHU_NO_TEXT;
+    }
+}
+
+static inline const char *nqabelihu_setting_text(nqabelihu_setting setting)
+{
+    switch ((uint32_t)setting) {
+        NQABELIHU_SETTING_TABLE(NQABELIHU_ROW_TEXT)
+    default:
+        return NQABELIHU_NO_TEXT;
+    }
+}
+
+static inline const char *nqabelihu_outcome_text(nqabelihu_outcome outcome)
+{
+    switch ((uint32_t)outcome) {
+        NQABELIHU_OUTCOME_TABLE(NQABELIHU_ROW_TEXT)
+    default:
+        return NQABELIHU_NO_TEXT;
+    }
+}
+
+static inline const char *nqabelihu_form_text(nqabelihu_form form)
+{
+    switch ((uint32_t)form) {
+        NQABELIHU_FORM_TABLE(NQABELIHU_ROW_TEXT)
+    default:
+        return NQABELIHU_NO_TEXT;
+    }
+}
+
+/* Of one condition, not of a mask of several. */
+static inline const char *nqabelihu_condition_text(nqabelihu_condition condition)
+{
+    switch ((uint32_t)condition) {
+        NQABELIHU_CONDITION_TABLE(NQABELIHU_ROW_TEXT)
+    default:
+        return NQABELIHU_NO_TEXT;
+    }
+}
+
+#define NQABELIHU_WRITE_TEXT(name, number, text) NQABELIHU_CASE(number, "write " text)
+#define NQABELIHU_READ_TEXT(name, number, text) NQABELIHU_CASE(number + NQABELIHU_READ_SETTING, "read " text)
+
+/* Of any op, those of the settings among them. */
+static inline const char *nqabelihu_op_text(uint32_t op)
+{
+    switch (op) {
+        NQABELIHU_OP_TABLE(NQABELIHU_OP_TEXT)
+        NQABELIHU_SETTING_TABLE(NQABELIHU_WRITE_TEXT)
+        NQABELIHU_SETTING_TABLE(NQABELIHU_READ_TEXT)
+    default:
+        return NQABELIHU_NO_TEXT;
+    }
+}
+
+#define NQABELIHU_WRITE_VALUES(name, number, text) NQABELIHU_CASE(number, 0)
+#define NQABELIHU_READ_VALUES(name, number, text) NQABELIHU_CASE(number + NQABELIHU_READ_SETTING, 1)
+
+/* How many values the answer of an op has; -1 for an op that is no call. */
+static inline int nqabelihu_values_of(uint32_t op)
+{
+    switch (op) {
+        NQABELIHU_OP_TABLE(NQABELIHU_OP_VALUES)
+        NQABELIHU_SETTING_TABLE(NQABELIHU_WRITE_VALUES)
+        NQABELIHU_SETTING_TABLE(NQABELIHU_READ_VALUES)
+    default:
+        return -1;
+    }
+}
+
+/*
+ * ---- every call by name ----
+ *
+ * Each gives the answer's number, NQABELIHU_DONE or a refusal. Beside a refusal every result is 0 and no word of the memory is changed.
+ * Reads on a channel run the status rule too, and may set latch bits: the memory is never const. The pointers for results must not be null.
+ *
+ * All of them go through this macro. Define it before this header to see every call: nqabelihu_record.h records sessions so.
+ */
+#ifndef NQABELIHU_PERFORM
+#define NQABELIHU_PERFORM nqabelihu_perform
+#endif
+
+/* The functions by name are made of these, whose names end in _ and which are not for hosts: a call with its values, one with no result, one
+ * with a result, and one with an entry. */
+NQABELIHU_LOOK static inline nqabelihu_refusal nqabelihu_call_(nqabelihu_memory memory, uint32_t *values, uint32_t op, uint32_t channel, uint32_t a,
+                                                              uint32_t b)
+{
+    uint32_t number = NQABELIHU_PERFORM(memory.words, memory.count, values, NQABELIHU_VALUES, op, channel, a, b);
+    return (nqabelihu_refusal)number;
+}
+
+NQABELIHU_LOOK static inline nqabelihu_refusal nqabelihu_do_(nqabelihu_memory memory, uint32_t op, uint32_t channel, uint32_t a, uint32_t b)
 {
     uint32_t values[NQABELIHU_VALUES];
-    uint32_t number = nqabelihu_perform(memory.words, memory.count, values, NQABELIHU_VALUES, op, channel, a, 0);
+    return nqabelihu_call_(memory, values, op, channel, a, b);
+}
+
+NQABELIHU_LOOK static inline nqabelihu_refusal nqabelihu_get_(nqabelihu_memory memory, uint32_t op, uint32_t channel, uint32_t a, uint32_t *result)
+{
+    uint32_t values[NQABELIHU_VALUES];
+    nqabelihu_refusal refusal = nqabelihu_call_(memory, values, op, channel, a, 0);
     *result = values[0];
-    return number;
+    return refusal;
 }
 
-static inline uint32_t nqabelihu_get_entry(nqabelihu_memory memory, uint32_t op, uint32_t channel, uint32_t a, nqabelihu_entry *entry)
+NQABELIHU_LOOK static inline nqabelihu_refusal nqabelihu_get_entry_(nqabelihu_memory memory, uint32_t op, uint32_t channel, uint32_t a,
+                                                                   nqabelihu_entry *entry)
 {
     uint32_t values[NQABELIHU_VALUES];
-    uint32_t number = nqabelihu_perform(memory.words, memory.count, values, NQABELIHU_VALUES, op, channel, a, 0);
+    nqabelihu_refusal refusal = nqabelihu_call_(memory, values, op, channel, a, 0);
     entry->status = values[0];
     entry->word = values[1];
     entry->stamp = values[2];
-    return number;
+    return refusal;
 }
 
 /* -- the module -- */
 
 /* Fills every needed word: factory settings, nothing held, stamp and counts 0. Refused only with RANGE (count not 1 to 12) and SHORT. */
-static inline uint32_t nqabelihu_power_up(nqabelihu_memory memory, uint32_t count)
+NQABELIHU_LOOK static inline nqabelihu_refusal nqabelihu_power_up(nqabelihu_memory memory, uint32_t count)
 {
-    return nqabelihu_do(memory, NQABELIHU_OP_POWER_UP, 0, count, 0);
+    return nqabelihu_do_(memory, NQABELIHU_OP_POWER_UP, 0, count, 0);
 }
 
 /* FIFOs cleared, async words dropped, transmitters idle, factory settings, stamp, fault counters and latches 0. Match sets, mailboxes,
  * both RAMs and the counts of fates stay. */
-static inline uint32_t nqabelihu_module_reset(nqabelihu_memory memory)
+NQABELIHU_LOOK static inline nqabelihu_refusal nqabelihu_module_reset(nqabelihu_memory memory)
 {
-    return nqabelihu_do(memory, NQABELIHU_OP_MODULE_RESET, 0, 0, 0);
+    return nqabelihu_do_(memory, NQABELIHU_OP_MODULE_RESET, 0, 0, 0);
 }
 
 /* Adds any number to the module's stamp, which rolls over. */
-static inline uint32_t nqabelihu_advance_stamp(nqabelihu_memory memory, uint32_t ticks)
+NQABELIHU_LOOK static inline nqabelihu_refusal nqabelihu_advance_stamp(nqabelihu_memory memory, uint32_t ticks)
 {
-    return nqabelihu_do(memory, NQABELIHU_OP_ADVANCE_STAMP, 0, ticks, 0);
+    return nqabelihu_do_(memory, NQABELIHU_OP_ADVANCE_STAMP, 0, ticks, 0);
 }
 
-static inline uint32_t nqabelihu_zero_stamp(nqabelihu_memory memory)
+NQABELIHU_LOOK static inline nqabelihu_refusal nqabelihu_zero_stamp(nqabelihu_memory memory)
 {
-    return nqabelihu_do(memory, NQABELIHU_OP_ZERO_STAMP, 0, 0, 0);
+    return nqabelihu_do_(memory, NQABELIHU_OP_ZERO_STAMP, 0, 0, 0);
 }
 
-static inline uint32_t nqabelihu_read_stamp(nqabelihu_memory memory, uint32_t *stamp)
+NQABELIHU_LOOK static inline nqabelihu_refusal nqabelihu_read_stamp(nqabelihu_memory memory, uint32_t *stamp)
 {
-    return nqabelihu_get(memory, NQABELIHU_OP_READ_STAMP, 0, 0, stamp);
+    return nqabelihu_get_(memory, NQABELIHU_OP_READ_STAMP, 0, 0, stamp);
 }
 
 /* The stamp resolution, 0 to 3: stored, and changes nothing else. */
-static inline uint32_t nqabelihu_write_resolution(nqabelihu_memory memory, uint32_t resolution)
+NQABELIHU_LOOK static inline nqabelihu_refusal nqabelihu_write_resolution(nqabelihu_memory memory, uint32_t resolution)
 {
-    return nqabelihu_do(memory, NQABELIHU_OP_WRITE_RESOLUTION, 0, resolution, 0);
+    return nqabelihu_do_(memory, NQABELIHU_OP_WRITE_RESOLUTION, 0, resolution, 0);
 }
 
-static inline uint32_t nqabelihu_read_resolution(nqabelihu_memory memory, uint32_t *resolution)
+NQABELIHU_LOOK static inline nqabelihu_refusal nqabelihu_read_resolution(nqabelihu_memory memory, uint32_t *resolution)
 {
-    return nqabelihu_get(memory, NQABELIHU_OP_READ_RESOLUTION, 0, 0, resolution);
+    return nqabelihu_get_(memory, NQABELIHU_OP_READ_RESOLUTION, 0, 0, resolution);
 }
 
 /* The fault threshold, 1 to 65535. */
-static inline uint32_t nqabelihu_write_threshold(nqabelihu_memory memory, uint32_t threshold)
+NQABELIHU_LOOK static inline nqabelihu_refusal nqabelihu_write_threshold(nqabelihu_memory memory, uint32_t threshold)
 {
-    return nqabelihu_do(memory, NQABELIHU_OP_WRITE_THRESHOLD, 0, threshold, 0);
+    return nqabelihu_do_(memory, NQABELIHU_OP_WRITE_THRESHOLD, 0, threshold, 0);
 }
 
-static inline uint32_t nqabelihu_read_threshold(nqabelihu_memory memory, uint32_t *threshold)
+NQABELIHU_LOOK static inline nqabelihu_refusal nqabelihu_read_threshold(nqabelihu_memory memory, uint32_t *threshold)
 {
-    return nqabelihu_get(memory, NQABELIHU_OP_READ_THRESHOLD, 0, 0, threshold);
+    return nqabelihu_get_(memory, NQABELIHU_OP_READ_THRESHOLD, 0, 0, threshold);
 }
 
 /* -- settings -- */
 
-/* Writes one of the twelve settings. Refused with MODE for a receive size below the present level; a setting above 11 is NO_CALL. */
-static inline uint32_t nqabelihu_write_setting(nqabelihu_memory memory, uint32_t channel, uint32_t setting, uint32_t value)
+/* The op of a setting, 0 (no call) where there is none of this number. */
+static inline uint32_t nqabelihu_setting_op_(nqabelihu_setting setting)
 {
-    uint32_t op = setting < NQABELIHU_SETTINGS ? NQABELIHU_OP_WRITE_SETTING + setting : 0u;
-    return nqabelihu_do(memory, op, channel, value, 0);
+    uint32_t op = (uint32_t)setting;
+    return (uint32_t)NQABELIHU_SETTING_RECEIVER <= op && op <= (uint32_t)NQABELIHU_SETTING_RATE ? op : 0;
 }
 
-static inline uint32_t nqabelihu_read_setting(nqabelihu_memory memory, uint32_t channel, uint32_t setting, uint32_t *value)
+/* Writes one of the twelve settings. Refused with MODE for a receive size below the present level; another number than a setting's is NO_CALL. */
+NQABELIHU_LOOK static inline nqabelihu_refusal nqabelihu_write_setting(nqabelihu_memory memory, uint32_t channel, nqabelihu_setting setting,
+                                                                       uint32_t value)
 {
-    uint32_t op = setting < NQABELIHU_SETTINGS ? NQABELIHU_OP_READ_SETTING + setting : 0u;
-    return nqabelihu_get(memory, op, channel, 0, value);
+    return nqabelihu_do_(memory, nqabelihu_setting_op_(setting), channel, value, 0);
+}
+
+NQABELIHU_LOOK static inline nqabelihu_refusal nqabelihu_read_setting(nqabelihu_memory memory, uint32_t channel, nqabelihu_setting setting,
+                                                                      uint32_t *value)
+{
+    uint32_t op = nqabelihu_setting_op_(setting);
+    return nqabelihu_get_(memory, op == 0 ? 0 : op + NQABELIHU_READ_SETTING, channel, 0, value);
 }
 
 /* -- receive -- */
 
 /* A word arrives on the channel; the outcome says what became of it. */
-static inline uint32_t nqabelihu_arrive(nqabelihu_memory memory, uint32_t channel, uint32_t word, uint32_t *outcome)
+NQABELIHU_LOOK static inline nqabelihu_refusal nqabelihu_arrive(nqabelihu_memory memory, uint32_t channel, uint32_t word,
+                                                                nqabelihu_outcome *outcome)
 {
-    return nqabelihu_get(memory, NQABELIHU_OP_ARRIVE, channel, word, outcome);
+    uint32_t result;
+    nqabelihu_refusal refusal = nqabelihu_get_(memory, NQABELIHU_OP_ARRIVE, channel, word, &result);
+    *outcome = (nqabelihu_outcome)result;
+    return refusal;
 }
 
 /* Takes the oldest entry out of the receive FIFO. Refused with EMPTY when it holds none. */
-static inline uint32_t nqabelihu_read_receive_fifo(nqabelihu_memory memory, uint32_t channel, nqabelihu_entry *entry)
+NQABELIHU_LOOK static inline nqabelihu_refusal nqabelihu_read_receive_fifo(nqabelihu_memory memory, uint32_t channel, nqabelihu_entry *entry)
 {
-    return nqabelihu_get_entry(memory, NQABELIHU_OP_READ_RECEIVE_FIFO, channel, 0, entry);
+    return nqabelihu_get_entry_(memory, NQABELIHU_OP_READ_RECEIVE_FIFO, channel, 0, entry);
 }
 
-/* Reads the mailbox of an SDI/Label index (a word modulo 1024); it is then no longer new. */
-static inline uint32_t nqabelihu_read_mailbox(nqabelihu_memory memory, uint32_t channel, uint32_t index, nqabelihu_entry *entry)
+/* Reads the mailbox of an SDI/Label index, as nqabelihu_at_label and nqabelihu_at_word give it; it is then no longer new. */
+NQABELIHU_LOOK static inline nqabelihu_refusal nqabelihu_read_mailbox(nqabelihu_memory memory, uint32_t channel, nqabelihu_index index,
+                                                                      nqabelihu_entry *entry)
 {
-    return nqabelihu_get_entry(memory, NQABELIHU_OP_READ_MAILBOX, channel, index, entry);
+    return nqabelihu_get_entry_(memory, NQABELIHU_OP_READ_MAILBOX, channel, index.number, entry);
 }
 
 /* Puts an SDI/Label index into the match set (1) or takes it out (0). */
-static inline uint32_t nqabelihu_write_match(nqabelihu_memory memory, uint32_t channel, uint32_t index, uint32_t in)
+NQABELIHU_LOOK static inline nqabelihu_refusal nqabelihu_write_match(nqabelihu_memory memory, uint32_t channel, nqabelihu_index index, uint32_t in)
 {
-    return nqabelihu_do(memory, NQABELIHU_OP_WRITE_MATCH, channel, index, in);
+    return nqabelihu_do_(memory, NQABELIHU_OP_WRITE_MATCH, channel, index.number, in);
 }
 
-static inline uint32_t nqabelihu_read_match(nqabelihu_memory memory, uint32_t channel, uint32_t index, uint32_t *in)
+NQABELIHU_LOOK static inline nqabelihu_refusal nqabelihu_read_match(nqabelihu_memory memory, uint32_t channel, nqabelihu_index index, uint32_t *in)
 {
-    return nqabelihu_get(memory, NQABELIHU_OP_READ_MATCH, channel, index, in);
+    return nqabelihu_get_(memory, NQABELIHU_OP_READ_MATCH, channel, index.number, in);
 }
 
 /* -- transmit -- */
 
 /* Puts a word behind those of the transmit FIFO. Refused with FULL when it holds 255. */
-static inline uint32_t nqabelihu_write_transmit_fifo(nqabelihu_memory memory, uint32_t channel, uint32_t word)
+NQABELIHU_LOOK static inline nqabelihu_refusal nqabelihu_write_transmit_fifo(nqabelihu_memory memory, uint32_t channel, uint32_t word)
 {
-    return nqabelihu_do(memory, NQABELIHU_OP_WRITE_TRANSMIT_FIFO, channel, word, 0);
+    return nqabelihu_do_(memory, NQABELIHU_OP_WRITE_TRANSMIT_FIFO, channel, word, 0);
 }
 
 /* Lets an async word wait for a gap of the schedule. Refused with MODE outside scheduled mode, with FULL when one already waits. */
-static inline uint32_t nqabelihu_write_async(nqabelihu_memory memory, uint32_t channel, uint32_t word)
+NQABELIHU_LOOK static inline nqabelihu_refusal nqabelihu_write_async(nqabelihu_memory memory, uint32_t channel, uint32_t word)
 {
-    return nqabelihu_do(memory, NQABELIHU_OP_WRITE_ASYNC, channel, word, 0);
+    return nqabelihu_do_(memory, NQABELIHU_OP_WRITE_ASYNC, channel, word, 0);
 }
 
 /* Starts or goes on. Refused with MODE when the transmitter is off. */
-static inline uint32_t nqabelihu_trigger(nqabelihu_memory memory, uint32_t channel)
+NQABELIHU_LOOK static inline nqabelihu_refusal nqabelihu_trigger(nqabelihu_memory memory, uint32_t channel)
 {
-    return nqabelihu_do(memory, NQABELIHU_OP_TRIGGER, channel, 0, 0);
+    return nqabelihu_do_(memory, NQABELIHU_OP_TRIGGER, channel, 0, 0);
 }
 
-static inline uint32_t nqabelihu_pause(nqabelihu_memory memory, uint32_t channel)
+NQABELIHU_LOOK static inline nqabelihu_refusal nqabelihu_pause(nqabelihu_memory memory, uint32_t channel)
 {
-    return nqabelihu_do(memory, NQABELIHU_OP_PAUSE, channel, 0, 0);
+    return nqabelihu_do_(memory, NQABELIHU_OP_PAUSE, channel, 0, 0);
 }
 
-static inline uint32_t nqabelihu_stop(nqabelihu_memory memory, uint32_t channel)
+NQABELIHU_LOOK static inline nqabelihu_refusal nqabelihu_stop(nqabelihu_memory memory, uint32_t channel)
 {
-    return nqabelihu_do(memory, NQABELIHU_OP_STOP, channel, 0, 0);
+    return nqabelihu_do_(memory, NQABELIHU_OP_STOP, channel, 0, 0);
 }
 
-/* One step of the transmitter gives one output. */
-static inline uint32_t nqabelihu_step(nqabelihu_memory memory, uint32_t channel, nqabelihu_output *output)
+/* One step of the transmitter gives one output. The stamp stays: advance it by the time that the output takes. */
+NQABELIHU_LOOK static inline nqabelihu_refusal nqabelihu_step(nqabelihu_memory memory, uint32_t channel, nqabelihu_output *output)
 {
     uint32_t values[NQABELIHU_VALUES];
-    uint32_t number = nqabelihu_perform(memory.words, memory.count, values, NQABELIHU_VALUES, NQABELIHU_OP_STEP, channel, 0, 0);
-    output->form = values[0];
+    nqabelihu_refusal refusal = nqabelihu_call_(memory, values, NQABELIHU_OP_STEP, channel, 0, 0);
+    output->form = (nqabelihu_form)values[0];
     output->x = values[1];
     output->y = values[2];
     output->z = values[3];
-    return number;
+    return refusal;
 }
 
-/* The two RAMs, addresses 0 to 255: commands of the schedule, and the words and gaps that they name. */
-static inline uint32_t nqabelihu_write_schedule(nqabelihu_memory memory, uint32_t channel, uint32_t address, uint32_t command)
+/* The two RAMs: commands of the schedule (addresses below NQABELIHU_SCHEDULE_WORDS), and the words and gaps that they name (below
+ * NQABELIHU_MESSAGE_WORDS). */
+NQABELIHU_LOOK static inline nqabelihu_refusal nqabelihu_write_schedule(nqabelihu_memory memory, uint32_t channel, uint32_t address, uint32_t command)
 {
-    return nqabelihu_do(memory, NQABELIHU_OP_WRITE_SCHEDULE, channel, address, command);
+    return nqabelihu_do_(memory, NQABELIHU_OP_WRITE_SCHEDULE, channel, address, command);
 }
 
-static inline uint32_t nqabelihu_read_schedule(nqabelihu_memory memory, uint32_t channel, uint32_t address, uint32_t *command)
+NQABELIHU_LOOK static inline nqabelihu_refusal nqabelihu_read_schedule(nqabelihu_memory memory, uint32_t channel, uint32_t address, uint32_t *command)
 {
-    return nqabelihu_get(memory, NQABELIHU_OP_READ_SCHEDULE, channel, address, command);
+    return nqabelihu_get_(memory, NQABELIHU_OP_READ_SCHEDULE, channel, address, command);
 }
 
-static inline uint32_t nqabelihu_write_message(nqabelihu_memory memory, uint32_t channel, uint32_t address, uint32_t word)
+NQABELIHU_LOOK static inline nqabelihu_refusal nqabelihu_write_message(nqabelihu_memory memory, uint32_t channel, uint32_t address, uint32_t word)
 {
-    return nqabelihu_do(memory, NQABELIHU_OP_WRITE_MESSAGE, channel, address, word);
+    return nqabelihu_do_(memory, NQABELIHU_OP_WRITE_MESSAGE, channel, address, word);
 }
 
-static inline uint32_t nqabelihu_read_message(nqabelihu_memory memory, uint32_t channel, uint32_t address, uint32_t *word)
+NQABELIHU_LOOK static inline nqabelihu_refusal nqabelihu_read_message(nqabelihu_memory memory, uint32_t channel, uint32_t address, uint32_t *word)
 {
-    return nqabelihu_get(memory, NQABELIHU_OP_READ_MESSAGE, channel, address, word);
+    return nqabelihu_get_(memory, NQABELIHU_OP_READ_MESSAGE, channel, address, word);
 }
 
 /* -- faults and tests -- */
 
 /* A background sample: 1 failing adds 2 to the channel's fault counter, 0 good takes 1 away. */
-static inline uint32_t nqabelihu_sample(nqabelihu_memory memory, uint32_t channel, uint32_t failing)
+NQABELIHU_LOOK static inline nqabelihu_refusal nqabelihu_sample(nqabelihu_memory memory, uint32_t channel, uint32_t failing)
 {
-    return nqabelihu_do(memory, NQABELIHU_OP_SAMPLE, channel, failing, 0);
+    return nqabelihu_do_(memory, NQABELIHU_OP_SAMPLE, channel, failing, 0);
 }
 
 /* Zeroes the channel's fault counter. */
-static inline uint32_t nqabelihu_reset_test(nqabelihu_memory memory, uint32_t channel)
+NQABELIHU_LOOK static inline nqabelihu_refusal nqabelihu_reset_test(nqabelihu_memory memory, uint32_t channel)
 {
-    return nqabelihu_do(memory, NQABELIHU_OP_RESET_TEST, channel, 0, 0);
+    return nqabelihu_do_(memory, NQABELIHU_OP_RESET_TEST, channel, 0, 0);
 }
 
 /* Clears both FIFOs and stops the transmitter; 1 for a failed test also latches the fault. */
-static inline uint32_t nqabelihu_initiate_test(nqabelihu_memory memory, uint32_t channel, uint32_t failed)
+NQABELIHU_LOOK static inline nqabelihu_refusal nqabelihu_initiate_test(nqabelihu_memory memory, uint32_t channel, uint32_t failed)
 {
-    return nqabelihu_do(memory, NQABELIHU_OP_INITIATE_TEST, channel, failed, 0);
+    return nqabelihu_do_(memory, NQABELIHU_OP_INITIATE_TEST, channel, failed, 0);
 }
 
 /* -- status: masks of the conditions above -- */
 
 /* The latched conditions. */
-static inline uint32_t nqabelihu_read_status(nqabelihu_memory memory, uint32_t channel, uint32_t *latched)
+NQABELIHU_LOOK static inline nqabelihu_refusal nqabelihu_read_status(nqabelihu_memory memory, uint32_t channel, uint32_t *latched)
 {
-    return nqabelihu_get(memory, NQABELIHU_OP_READ_STATUS, channel, 0, latched);
+    return nqabelihu_get_(memory, NQABELIHU_OP_READ_STATUS, channel, 0, latched);
 }
 
 /* Ones clear their latch bits; a condition that holds by level is latched again at once. */
-static inline uint32_t nqabelihu_clear_latch(nqabelihu_memory memory, uint32_t channel, uint32_t mask)
+NQABELIHU_LOOK static inline nqabelihu_refusal nqabelihu_clear_latch(nqabelihu_memory memory, uint32_t channel, uint32_t mask)
 {
-    return nqabelihu_do(memory, NQABELIHU_OP_CLEAR_LATCH, channel, mask, 0);
+    return nqabelihu_do_(memory, NQABELIHU_OP_CLEAR_LATCH, channel, mask, 0);
 }
 
 /* The conditions whose latch makes an interrupt pending. */
-static inline uint32_t nqabelihu_write_enable(nqabelihu_memory memory, uint32_t channel, uint32_t mask)
+NQABELIHU_LOOK static inline nqabelihu_refusal nqabelihu_write_enable(nqabelihu_memory memory, uint32_t channel, uint32_t mask)
 {
-    return nqabelihu_do(memory, NQABELIHU_OP_WRITE_ENABLE, channel, mask, 0);
+    return nqabelihu_do_(memory, NQABELIHU_OP_WRITE_ENABLE, channel, mask, 0);
 }
 
-static inline uint32_t nqabelihu_read_enable(nqabelihu_memory memory, uint32_t channel, uint32_t *mask)
+NQABELIHU_LOOK static inline nqabelihu_refusal nqabelihu_read_enable(nqabelihu_memory memory, uint32_t channel, uint32_t *mask)
 {
-    return nqabelihu_get(memory, NQABELIHU_OP_READ_ENABLE, channel, 0, mask);
+    return nqabelihu_get_(memory, NQABELIHU_OP_READ_ENABLE, channel, 0, mask);
 }
 
 /* The conditions that latch by level (1) and not by edge (0). */
-static inline uint32_t nqabelihu_write_level_mask(nqabelihu_memory memory, uint32_t channel, uint32_t mask)
+NQABELIHU_LOOK static inline nqabelihu_refusal nqabelihu_write_level_mask(nqabelihu_memory memory, uint32_t channel, uint32_t mask)
 {
-    return nqabelihu_do(memory, NQABELIHU_OP_WRITE_LEVEL_MASK, channel, mask, 0);
+    return nqabelihu_do_(memory, NQABELIHU_OP_WRITE_LEVEL_MASK, channel, mask, 0);
 }
 
-static inline uint32_t nqabelihu_read_level_mask(nqabelihu_memory memory, uint32_t channel, uint32_t *mask)
+NQABELIHU_LOOK static inline nqabelihu_refusal nqabelihu_read_level_mask(nqabelihu_memory memory, uint32_t channel, uint32_t *mask)
 {
-    return nqabelihu_get(memory, NQABELIHU_OP_READ_LEVEL_MASK, channel, 0, mask);
+    return nqabelihu_get_(memory, NQABELIHU_OP_READ_LEVEL_MASK, channel, 0, mask);
 }
 
 /* 1 where a latched condition is enabled, else 0. */
-static inline uint32_t nqabelihu_read_pending(nqabelihu_memory memory, uint32_t channel, uint32_t *pending)
+NQABELIHU_LOOK static inline nqabelihu_refusal nqabelihu_read_pending(nqabelihu_memory memory, uint32_t channel, uint32_t *pending)
 {
-    return nqabelihu_get(memory, NQABELIHU_OP_READ_PENDING, channel, 0, pending);
+    return nqabelihu_get_(memory, NQABELIHU_OP_READ_PENDING, channel, 0, pending);
 }
 
 /* -- fates and levels -- */
 
-static inline uint32_t nqabelihu_read_counts(nqabelihu_memory memory, uint32_t channel, nqabelihu_counts *counts)
+NQABELIHU_LOOK static inline nqabelihu_refusal nqabelihu_read_counts(nqabelihu_memory memory, uint32_t channel, nqabelihu_counts *counts)
 {
     uint32_t values[NQABELIHU_VALUES];
-    uint32_t number = nqabelihu_perform(memory.words, memory.count, values, NQABELIHU_VALUES, NQABELIHU_OP_READ_COUNTS, channel, 0, 0);
+    nqabelihu_refusal refusal = nqabelihu_call_(memory, values, NQABELIHU_OP_READ_COUNTS, channel, 0, 0);
     counts->receive_accepted = values[0];
     counts->receive_read = values[1];
     counts->receive_cleared = values[2];
@@ -509,27 +705,135 @@ static inline uint32_t nqabelihu_read_counts(nqabelihu_memory memory, uint32_t c
     counts->transmit_accepted = values[4];
     counts->transmit_sent = values[5];
     counts->transmit_cleared = values[6];
-    return number;
+    return refusal;
 }
 
-static inline uint32_t nqabelihu_read_receive_level(nqabelihu_memory memory, uint32_t channel, uint32_t *level)
+NQABELIHU_LOOK static inline nqabelihu_refusal nqabelihu_read_receive_level(nqabelihu_memory memory, uint32_t channel, uint32_t *level)
 {
-    return nqabelihu_get(memory, NQABELIHU_OP_READ_RECEIVE_LEVEL, channel, 0, level);
+    return nqabelihu_get_(memory, NQABELIHU_OP_READ_RECEIVE_LEVEL, channel, 0, level);
 }
 
-static inline uint32_t nqabelihu_read_transmit_level(nqabelihu_memory memory, uint32_t channel, uint32_t *level)
+NQABELIHU_LOOK static inline nqabelihu_refusal nqabelihu_read_transmit_level(nqabelihu_memory memory, uint32_t channel, uint32_t *level)
 {
-    return nqabelihu_get(memory, NQABELIHU_OP_READ_TRANSMIT_LEVEL, channel, 0, level);
+    return nqabelihu_get_(memory, NQABELIHU_OP_READ_TRANSMIT_LEVEL, channel, 0, level);
 }
 
 /* 1 where an async word waits, and that word; else 0 and 0. */
-static inline uint32_t nqabelihu_read_async(nqabelihu_memory memory, uint32_t channel, uint32_t *waiting, uint32_t *word)
+NQABELIHU_LOOK static inline nqabelihu_refusal nqabelihu_read_async(nqabelihu_memory memory, uint32_t channel, uint32_t *waiting, uint32_t *word)
 {
     uint32_t values[NQABELIHU_VALUES];
-    uint32_t number = nqabelihu_perform(memory.words, memory.count, values, NQABELIHU_VALUES, NQABELIHU_OP_READ_ASYNC, channel, 0, 0);
+    nqabelihu_refusal refusal = nqabelihu_call_(memory, values, NQABELIHU_OP_READ_ASYNC, channel, 0, 0);
     *waiting = values[0];
     *word = values[1];
-    return number;
+    return refusal;
+}
+
+/* ---- what a host does with the answers ---- */
+
+/* Whether a step sent a word, whatever its form: 1 and the word, or 0 and 0. */
+static inline int nqabelihu_output_word(nqabelihu_output output, uint32_t *word)
+{
+    switch ((uint32_t)output.form) {
+    case NQABELIHU_FORM_FIFO_WORD:
+    case NQABELIHU_FORM_MESSAGE:
+        *word = output.x;
+        return 1;
+    case NQABELIHU_FORM_ASYNC:
+        *word = output.y;
+        return 1;
+    default:
+        *word = 0;
+        return 0;
+    }
+}
+
+/* The bit times that a step's output takes on the line, whatever its form: words and null time together. */
+static inline uint32_t nqabelihu_output_bit_times(nqabelihu_output output)
+{
+    switch ((uint32_t)output.form) {
+    case NQABELIHU_FORM_FIFO_WORD:
+        return NQABELIHU_WORD_BIT_TIMES + output.y;
+    case NQABELIHU_FORM_MESSAGE:
+        return NQABELIHU_WORD_BIT_TIMES;
+    case NQABELIHU_FORM_NULL_TIME:
+        return output.x;
+    case NQABELIHU_FORM_ASYNC:
+        return output.x + NQABELIHU_WORD_BIT_TIMES + output.z;
+    default:
+        return 0;
+    }
+}
+
+/* Reads the receive FIFO, oldest entry first, until it is empty or `room` entries are read; `count` says how many. With count = room there may
+ * be more. Done where it ended so; another refusal than EMPTY is given, with no entry read. */
+NQABELIHU_LOOK static inline nqabelihu_refusal nqabelihu_drain_receive_fifo(nqabelihu_memory memory, uint32_t channel, nqabelihu_entry *entries,
+                                                                            size_t room, size_t *count)
+{
+    nqabelihu_entry entry;
+    nqabelihu_refusal refusal = NQABELIHU_DONE;
+    *count = 0;
+    while (*count < room && refusal == NQABELIHU_DONE) {
+        refusal = nqabelihu_read_receive_fifo(memory, channel, &entry);
+        if (refusal == NQABELIHU_DONE)
+            entries[(*count)++] = entry;
+    }
+    return refusal == NQABELIHU_REFUSED_EMPTY ? NQABELIHU_DONE : refusal;
+}
+
+/* What became of the words that were offered to a channel, since it was all zeros, modulo 2^32. Zero it at power-up, as the counts of fates are.
+ * A refused arrival was not offered to the channel. */
+typedef struct {
+    uint32_t offered;
+    uint32_t ignored;
+    uint32_t filtered;
+    uint32_t appended;
+    uint32_t dropped;
+    uint32_t overwriting;
+} nqabelihu_tally;
+
+/* One arrival more, with its outcome. */
+static inline void nqabelihu_tally_outcome(nqabelihu_tally *tally, nqabelihu_outcome outcome)
+{
+    tally->offered++;
+    switch ((uint32_t)outcome) {
+    case NQABELIHU_OUTCOME_IGNORED:
+        tally->ignored++;
+        break;
+    case NQABELIHU_OUTCOME_FILTERED:
+        tally->filtered++;
+        break;
+    case NQABELIHU_OUTCOME_APPENDED:
+        tally->appended++;
+        break;
+    case NQABELIHU_OUTCOME_DROPPED:
+        tally->dropped++;
+        break;
+    case NQABELIHU_OUTCOME_OVERWRITING:
+        tally->overwriting++;
+        break;
+    default:
+        break;
+    }
+}
+
+/* Those that the FIFO took: what nqabelihu_counts calls accepted. */
+static inline uint32_t nqabelihu_tally_accepted(const nqabelihu_tally *tally)
+{
+    return tally->appended + tally->overwriting;
+}
+
+/* The words that are lost: those dropped, and one overwritten by each that came in over it. */
+static inline uint32_t nqabelihu_tally_lost(const nqabelihu_tally *tally)
+{
+    return tally->dropped + tally->overwriting;
+}
+
+/* 1 where offered = accepted + dropped + filtered + ignored, and accepted and overwritten are those of the channel's counts of fates; else 0. */
+NQABELIHU_LOOK static inline int nqabelihu_tally_agrees(const nqabelihu_tally *tally, const nqabelihu_counts *counts)
+{
+    uint32_t accepted = nqabelihu_tally_accepted(tally);
+    return tally->offered == accepted + tally->dropped + tally->filtered + tally->ignored && accepted == counts->receive_accepted
+           && tally->overwriting == counts->receive_overwritten;
 }
 
 #ifdef __cplusplus

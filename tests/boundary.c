@@ -1,7 +1,8 @@
 /*
  * The C interface at its limits: no memory, short memory, too few words for the values, every op number, damaged memory. Lent parts stand
  * against pages that may not be touched, at their end and at their start, since the sanitizers see this program's own accesses and not
- * those of the library. A failed check prints its line and exits with status 1.
+ * those of the library. A failed check prints its line and exits with status 1. The parts of the header that stand on these calls follow in
+ * kit.c.
  */
 #define _DEFAULT_SOURCE
 #include <stdio.h>
@@ -10,20 +11,16 @@
 #include <sys/mman.h>
 #include <unistd.h>
 
-#include "nqabelihu.h"
+#include "check.h"
+#include "nqabelihu_record.h"
 
-static unsigned long checks;
+unsigned long checks;
 
-#define CHECK(test, ...)                         \
-    do {                                         \
-        checks++;                                \
-        if (!(test)) {                           \
-            printf("boundary.c:%d: ", __LINE__); \
-            printf(__VA_ARGS__);                 \
-            printf("\n");                        \
-            exit(1);                             \
-        }                                        \
-    } while (0)
+uint32_t reset_elsewhere(uint32_t *words, size_t count)
+{
+    nqabelihu_memory memory = {words, count};
+    return nqabelihu_module_reset(memory);
+}
 
 enum { COUNT = 3, BEYOND = 64, SENTINEL = 0x5AFE };
 
@@ -150,16 +147,16 @@ static void little_memory(void)
         for (at = 0; at < words; at++)
             copy[at] = memory[at] = edge();
         for (op = 0; op < 400; op++) {
-            uint32_t expected = values_of(op) < 0 ? NQABELIHU_NO_CALL : NQABELIHU_SHORT;
+            uint32_t expected = values_of(op) < 0 ? NQABELIHU_REFUSED_NO_CALL : NQABELIHU_REFUSED_SHORT;
             CHECK(item(memory, words, op, 1, 1, 1) == expected, "op %u on %u words", (unsigned)op, (unsigned)words);
         }
-        CHECK(item(memory, words, 1, 0, 0, 0) == NQABELIHU_RANGE, "power-up of 0 channels on %u words", (unsigned)words);
-        CHECK(item(memory, words, 1, 0, 12, 0) == NQABELIHU_SHORT, "power-up of 12 channels on %u words", (unsigned)words);
-        CHECK(item(memory, words, 1, 0, 13, 0) == NQABELIHU_RANGE, "power-up of 13 channels on %u words", (unsigned)words);
+        CHECK(item(memory, words, 1, 0, 0, 0) == NQABELIHU_REFUSED_RANGE, "power-up of 0 channels on %u words", (unsigned)words);
+        CHECK(item(memory, words, 1, 0, 12, 0) == NQABELIHU_REFUSED_SHORT, "power-up of 12 channels on %u words", (unsigned)words);
+        CHECK(item(memory, words, 1, 0, 13, 0) == NQABELIHU_REFUSED_RANGE, "power-up of 13 channels on %u words", (unsigned)words);
         CHECK(words == 0 || memcmp(memory, copy, words * sizeof *memory) == 0, "%u words were changed", (unsigned)words);
     }
     /* A dangling pointer with no words is not followed. */
-    CHECK(item(between_guards(0, AT_END), 0, 1, 0, 1, 0) == NQABELIHU_SHORT, "power-up on 0 words");
+    CHECK(item(between_guards(0, AT_END), 0, 1, 0, 1, 0) == NQABELIHU_REFUSED_SHORT, "power-up on 0 words");
 }
 
 /* Memory of one word less than the need, and of exactly the need, at both sides of a guard. */
@@ -173,7 +170,7 @@ static void exact_memory(uint32_t count, int side)
     CHECK(copy != NULL, "no memory");
 
     memset(shorter, 0xFF, (need - 1) * sizeof *shorter);
-    CHECK(item(shorter, need - 1, 1, 0, count, 0) == NQABELIHU_SHORT, "power-up of %u channels on one word less", (unsigned)count);
+    CHECK(item(shorter, need - 1, 1, 0, count, 0) == NQABELIHU_REFUSED_SHORT, "power-up of %u channels on one word less", (unsigned)count);
     for (at = 0; at < need - 1; at++)
         CHECK(shorter[at] == 0xFFFFFFFF, "word %u changed", (unsigned)at);
 
@@ -186,7 +183,7 @@ static void exact_memory(uint32_t count, int side)
     memcpy(copy, exact, need * sizeof *copy);
     memcpy(shorter, exact, (need - 1) * sizeof *shorter);
     for (op = 2; op < 200; op++) {
-        uint32_t expected = values_of(op) < 0 ? NQABELIHU_NO_CALL : NQABELIHU_SHORT;
+        uint32_t expected = values_of(op) < 0 ? NQABELIHU_REFUSED_NO_CALL : NQABELIHU_REFUSED_SHORT;
         CHECK(item(shorter, need - 1, op, 1, 1, 1) == expected, "op %u on one word less", (unsigned)op);
     }
     CHECK(memcmp(shorter, copy, (need - 1) * sizeof *copy) == 0, "memory of one word less was changed");
@@ -208,16 +205,16 @@ static void few_values(void)
     uint32_t op;
     CHECK(copy != NULL, "no memory");
     CHECK(item(memory, need, 1, 0, 1, 0) == NQABELIHU_DONE, "power-up");
-    CHECK(item(memory, need, 32 + NQABELIHU_RECEIVER, 1, 1, 0) == NQABELIHU_DONE, "receiver on");
+    CHECK(item(memory, need, NQABELIHU_SETTING_RECEIVER, 1, 1, 0) == NQABELIHU_DONE, "receiver on");
     memcpy(copy, memory, need * sizeof *copy);
     for (places = 0; places < NQABELIHU_VALUES; places++) {
         uint32_t *few = places == 0 ? NULL : between_guards(places, AT_END);
         for (at = 0; at < places; at++)
             few[at] = SENTINEL;
         for (op = 0; op < 200; op++) {
-            CHECK(nqabelihu_perform(memory, need, few, places, op, 1, 1, 1) == NQABELIHU_FEW_VALUES, "op %u with %u words for the values",
+            CHECK(nqabelihu_perform(memory, need, few, places, op, 1, 1, 1) == NQABELIHU_REFUSED_FEW_VALUES, "op %u with %u words for the values",
                   (unsigned)op, (unsigned)places);
-            CHECK(nqabelihu_perform(NULL, 0, few, places, op, 1, 1, 1) == NQABELIHU_FEW_VALUES, "op %u with %u words for the values, no memory",
+            CHECK(nqabelihu_perform(NULL, 0, few, places, op, 1, 1, 1) == NQABELIHU_REFUSED_FEW_VALUES, "op %u with %u words for the values, no memory",
                   (unsigned)op, (unsigned)places);
         }
         for (at = 0; at < places; at++)
@@ -249,8 +246,9 @@ static void every_op(void)
     memcpy(copy, memory, need * sizeof *copy);
     for (step = 0; step < 1024 + 32 + 100; step++) {
         op = step < 1024 ? step : step < 1024 + 32 ? 0xFFFFFFFF >> (step - 1024) : 157 + below(0xFFFFFF00);
+        CHECK(nqabelihu_values_of(op) == values_of(op), "values of op %u", (unsigned)op);
         if (op != 1 && values_of(op) < 0) {
-            CHECK(item(memory, need, op, 1, 1, 1) == NQABELIHU_NO_CALL, "op %u is taken for a call", (unsigned)op);
+            CHECK(item(memory, need, op, 1, 1, 1) == NQABELIHU_REFUSED_NO_CALL, "op %u is taken for a call", (unsigned)op);
             CHECK(memcmp(memory, copy, need * sizeof *copy) == 0, "op %u, no call, changed the memory", (unsigned)op);
         } else {
             CHECK(item(memory, need, op, 1, 1, 1) < 8, "op %u is a call", (unsigned)op);
@@ -294,7 +292,7 @@ static void random_calls(void)
         } else {
             refused++;
             CHECK(memcmp(memory, before, whole * sizeof *before) == 0, "op %u refused with %u changed the memory", (unsigned)op, (unsigned)number);
-            CHECK(number < 8 ? values_of(op) >= 0 : number == NQABELIHU_NO_CALL && values_of(op) < 0, "op %u answered %u", (unsigned)op,
+            CHECK(number < 8 ? values_of(op) >= 0 : number == NQABELIHU_REFUSED_NO_CALL && values_of(op) < 0, "op %u answered %u", (unsigned)op,
                   (unsigned)number);
         }
         if (damaged < whole && op != 1)
@@ -331,6 +329,7 @@ static void by_name(void)
     uint32_t r[NQABELIHU_VALUES] = {0}, setting, number;
     nqabelihu_entry e;
     nqabelihu_output o;
+    nqabelihu_outcome outcome;
     int turn;
     named.words = (uint32_t *)calloc(need, sizeof(uint32_t));
     named.count = need;
@@ -338,14 +337,18 @@ static void by_name(void)
     CHECK(named.words != NULL && twin != NULL, "no memory");
 
     same("power_up", nqabelihu_power_up(named, COUNT), 1, 0, COUNT, 0, 0, r);
-    for (setting = 0; setting <= 12; setting++) {
-        uint32_t value = setting < 12 ? sound[setting] : 1;
-        uint32_t write = setting < 12 ? 32 + setting : 0, read = setting < 12 ? 64 + setting : 0;
-        same("write_setting", nqabelihu_write_setting(named, 2, setting, value), write, 2, value, 0, 0, r);
-        same("read_setting", nqabelihu_read_setting(named, 2, setting, r), read, 2, 0, 0, 1, r);
+    for (setting = 0; setting < NQABELIHU_SETTINGS; setting++) {
+        nqabelihu_setting s = (nqabelihu_setting)(NQABELIHU_SETTING_RECEIVER + setting);
+        same("write_setting", nqabelihu_write_setting(named, 2, s, sound[setting]), 32 + setting, 2, sound[setting], 0, 0, r);
+        same("read_setting", nqabelihu_read_setting(named, 2, s, r), 64 + setting, 2, 0, 0, 1, r);
     }
-    same("write_setting", nqabelihu_write_setting(named, 1, NQABELIHU_RECEIVER, 1), 32, 1, 1, 0, 0, r);
-    same("write_setting", nqabelihu_write_setting(named, 1, NQABELIHU_STAMPS, 1), 36, 1, 1, 0, 0, r);
+    /* Any other number is no call: that of a channel, of an op that reads a setting, and those at both ends. */
+    for (setting = 0; setting < 100; setting = setting == 31 ? 44 : setting + 1) {
+        same("write_setting", nqabelihu_write_setting(named, 2, (nqabelihu_setting)setting, 1), 0, 2, 1, 0, 0, r);
+        same("read_setting", nqabelihu_read_setting(named, 2, (nqabelihu_setting)setting, r), 0, 2, 0, 0, 1, r);
+    }
+    same("write_setting", nqabelihu_write_setting(named, 1, NQABELIHU_SETTING_RECEIVER, 1), 32, 1, 1, 0, 0, r);
+    same("write_setting", nqabelihu_write_setting(named, 1, NQABELIHU_SETTING_STAMPS, 1), 36, 1, 1, 0, 0, r);
     same("write_resolution", nqabelihu_write_resolution(named, 3), 6, 0, 3, 0, 0, r);
     same("read_resolution", nqabelihu_read_resolution(named, r), 7, 0, 0, 0, 1, r);
     same("write_threshold", nqabelihu_write_threshold(named, 1), 8, 0, 1, 0, 0, r);
@@ -354,11 +357,13 @@ static void by_name(void)
         uint32_t word = 0x600000D4 + (uint32_t)turn;
         same("advance_stamp", nqabelihu_advance_stamp(named, 50), 3, 0, 50, 0, 0, r);
         same("read_stamp", nqabelihu_read_stamp(named, r), 5, 0, 0, 0, 1, r);
-        same("write_match", nqabelihu_write_match(named, 2, word % 1024, 1), 131, 2, word % 1024, 1, 0, r);
-        same("read_match", nqabelihu_read_match(named, 2, word % 1024, r), 132, 2, word % 1024, 0, 1, r);
-        same("arrive", nqabelihu_arrive(named, 1, word, r), 128, 1, word, 0, 1, r);
-        same("arrive", nqabelihu_arrive(named, 2, word, r), 128, 2, word, 0, 1, r);
-        number = nqabelihu_read_mailbox(named, 2, word % 1024, &e);
+        same("write_match", nqabelihu_write_match(named, 2, nqabelihu_at_word(word), 1), 131, 2, word % 1024, 1, 0, r);
+        same("read_match", nqabelihu_read_match(named, 2, nqabelihu_at_word(word), r), 132, 2, word % 1024, 0, 1, r);
+        number = nqabelihu_arrive(named, 1, word, &outcome);
+        same("arrive", number, 128, 1, word, 0, 1, (uint32_t[]){outcome});
+        number = nqabelihu_arrive(named, 2, word, &outcome);
+        same("arrive", number, 128, 2, word, 0, 1, (uint32_t[]){outcome});
+        number = nqabelihu_read_mailbox(named, 2, nqabelihu_at_word(word), &e);
         same("read_mailbox", number, 130, 2, word % 1024, 0, 3, (uint32_t[]){e.status, e.word, e.stamp});
         same("write_transmit_fifo", nqabelihu_write_transmit_fifo(named, 1, word), 133, 1, word, 0, 0, r);
         same("read_transmit_level", nqabelihu_read_transmit_level(named, 1, r), 155, 1, 0, 0, 1, r);
@@ -370,7 +375,7 @@ static void by_name(void)
         same("read_message", nqabelihu_read_message(named, 2, 5, r), 142, 2, 5, 0, 1, r);
         same("write_async", nqabelihu_write_async(named, 2, word), 134, 2, word, 0, 0, r);
         same("read_async", nqabelihu_read_async(named, 2, &r[0], &r[1]), 156, 2, 0, 0, 2, r);
-        same("write_setting", nqabelihu_write_setting(named, 1, NQABELIHU_TRANSMITTER, 1), 33, 1, 1, 0, 0, r);
+        same("write_setting", nqabelihu_write_setting(named, 1, NQABELIHU_SETTING_TRANSMITTER, 1), 33, 1, 1, 0, 0, r);
         same("trigger", nqabelihu_trigger(named, 2), 135, 2, 0, 0, 0, r);
         number = nqabelihu_step(named, 2, &o);
         same("step", number, 138, 2, 0, 0, 4, (uint32_t[]){o.form, o.x, o.y, o.z});
@@ -417,11 +422,11 @@ static nqabelihu_memory fresh(uint32_t *words)
     return memory;
 }
 
-#define DO(call) CHECK((call) == NQABELIHU_DONE, #call)
+#define DO(call) CHECK((call) == NQABELIHU_DONE, "%s", #call)
 
-static uint32_t arrives(nqabelihu_memory memory, uint32_t channel, uint32_t word)
+static nqabelihu_outcome arrives(nqabelihu_memory memory, uint32_t channel, uint32_t word)
 {
-    uint32_t outcome;
+    nqabelihu_outcome outcome;
     DO(nqabelihu_arrive(memory, channel, word, &outcome));
     return outcome;
 }
@@ -448,57 +453,59 @@ static void answers(nqabelihu_memory m)
     nqabelihu_entry entry;
     uint32_t at, old = m.words[2];
     less.count--;
-    CHECK(nqabelihu_trigger(less, 1) == NQABELIHU_SHORT, "short");
+    CHECK(nqabelihu_trigger(less, 1) == NQABELIHU_REFUSED_SHORT, "short");
     m.words[2] = 4;
-    CHECK(nqabelihu_trigger(m, 1) == NQABELIHU_UNSOUND, "unsound");
+    CHECK(nqabelihu_trigger(m, 1) == NQABELIHU_REFUSED_UNSOUND, "unsound");
     m.words[2] = old;
-    CHECK(nqabelihu_trigger(m, COUNT + 1) == NQABELIHU_CHANNEL, "channel");
-    CHECK(nqabelihu_write_setting(m, 1, NQABELIHU_RATE, 3) == NQABELIHU_RANGE, "range");
-    CHECK(nqabelihu_write_match(m, 1, NQABELIHU_MAILBOXES, 1) == NQABELIHU_RANGE, "range");
-    DO(nqabelihu_write_match(m, 1, NQABELIHU_MAILBOXES - 1, 1));
-    CHECK(nqabelihu_write_message(m, 1, NQABELIHU_RAM_WORDS, 1) == NQABELIHU_RANGE, "range");
-    DO(nqabelihu_write_message(m, 1, NQABELIHU_RAM_WORDS - 1, 1));
-    CHECK(nqabelihu_trigger(m, 1) == NQABELIHU_MODE, "mode");
+    CHECK(nqabelihu_trigger(m, COUNT + 1) == NQABELIHU_REFUSED_CHANNEL, "channel");
+    CHECK(nqabelihu_write_setting(m, 1, NQABELIHU_SETTING_RATE, 3) == NQABELIHU_REFUSED_RANGE, "range");
+    CHECK(nqabelihu_write_match(m, 1, (nqabelihu_index){NQABELIHU_MAILBOXES}, 1) == NQABELIHU_REFUSED_RANGE, "range");
+    DO(nqabelihu_write_match(m, 1, (nqabelihu_index){NQABELIHU_MAILBOXES - 1}, 1));
+    CHECK(nqabelihu_write_message(m, 1, NQABELIHU_MESSAGE_WORDS, 1) == NQABELIHU_REFUSED_RANGE, "range");
+    DO(nqabelihu_write_message(m, 1, NQABELIHU_MESSAGE_WORDS - 1, 1));
+    CHECK(nqabelihu_write_schedule(m, 1, NQABELIHU_SCHEDULE_WORDS, 1) == NQABELIHU_REFUSED_RANGE, "range");
+    DO(nqabelihu_write_schedule(m, 1, NQABELIHU_SCHEDULE_WORDS - 1, 1));
+    CHECK(nqabelihu_trigger(m, 1) == NQABELIHU_REFUSED_MODE, "mode");
     for (at = 0; at < NQABELIHU_FIFO_ENTRIES; at++)
         DO(nqabelihu_write_transmit_fifo(m, 1, at));
-    CHECK(nqabelihu_write_transmit_fifo(m, 1, at) == NQABELIHU_FULL, "full");
-    CHECK(nqabelihu_read_receive_fifo(m, 1, &entry) == NQABELIHU_EMPTY, "empty");
-    CHECK(NQABELIHU_SETTINGS == 12 && nqabelihu_read_setting(m, 1, NQABELIHU_SETTINGS, &at) == NQABELIHU_NO_CALL, "no call");
+    CHECK(nqabelihu_write_transmit_fifo(m, 1, at) == NQABELIHU_REFUSED_FULL, "full");
+    CHECK(nqabelihu_read_receive_fifo(m, 1, &entry) == NQABELIHU_REFUSED_EMPTY, "empty");
+    CHECK(nqabelihu_read_setting(m, 1, (nqabelihu_setting)1, &at) == NQABELIHU_REFUSED_NO_CALL, "no call");
 }
 
 static void receiving(nqabelihu_memory m)
 {
     nqabelihu_entry entry;
-    CHECK(arrives(m, 1, 1) == NQABELIHU_IGNORED, "ignored");
-    DO(nqabelihu_write_setting(m, 1, NQABELIHU_RECEIVER, 1));
-    DO(nqabelihu_write_setting(m, 1, NQABELIHU_MATCH, 1));
-    CHECK(arrives(m, 1, 1) == NQABELIHU_FILTERED, "filtered");
-    DO(nqabelihu_write_setting(m, 1, NQABELIHU_MATCH, 0));
-    DO(nqabelihu_write_setting(m, 1, NQABELIHU_RECEIVE_SIZE, 3));
-    DO(nqabelihu_write_setting(m, 1, NQABELIHU_ALMOST_FULL, 2));
-    CHECK(arrives(m, 1, 1) == NQABELIHU_APPENDED && latched(m, 1) == 0, "appended");
-    CHECK(arrives(m, 1, 2) == NQABELIHU_APPENDED && latched(m, 1) == NQABELIHU_IS_ALMOST_FULL, "almost full");
-    CHECK(arrives(m, 1, 3) == NQABELIHU_APPENDED, "appended");
-    CHECK(latched(m, 1) == NQABELIHU_IS_FULL + NQABELIHU_IS_PARITY_ERROR, "full, parity error");
-    CHECK(arrives(m, 1, 4) == NQABELIHU_DROPPED, "dropped");
-    DO(nqabelihu_write_setting(m, 1, NQABELIHU_FIFO_KIND, NQABELIHU_CIRCULAR));
-    CHECK(arrives(m, 1, 4) == NQABELIHU_OVERWRITING, "overwriting");
-    DO(nqabelihu_write_setting(m, 1, NQABELIHU_FIFO_KIND, NQABELIHU_BOUNDED));
-    CHECK(arrives(m, 1, 4) == NQABELIHU_DROPPED, "dropped");
+    CHECK(arrives(m, 1, 1) == NQABELIHU_OUTCOME_IGNORED, "ignored");
+    DO(nqabelihu_write_setting(m, 1, NQABELIHU_SETTING_RECEIVER, 1));
+    DO(nqabelihu_write_setting(m, 1, NQABELIHU_SETTING_MATCH, 1));
+    CHECK(arrives(m, 1, 1) == NQABELIHU_OUTCOME_FILTERED, "filtered");
+    DO(nqabelihu_write_setting(m, 1, NQABELIHU_SETTING_MATCH, 0));
+    DO(nqabelihu_write_setting(m, 1, NQABELIHU_SETTING_RECEIVE_SIZE, 3));
+    DO(nqabelihu_write_setting(m, 1, NQABELIHU_SETTING_ALMOST_FULL, 2));
+    CHECK(arrives(m, 1, 1) == NQABELIHU_OUTCOME_APPENDED && latched(m, 1) == 0, "appended");
+    CHECK(arrives(m, 1, 2) == NQABELIHU_OUTCOME_APPENDED && latched(m, 1) == NQABELIHU_CONDITION_ALMOST_FULL, "almost full");
+    CHECK(arrives(m, 1, 3) == NQABELIHU_OUTCOME_APPENDED, "appended");
+    CHECK(latched(m, 1) == NQABELIHU_CONDITION_FULL + NQABELIHU_CONDITION_PARITY_ERROR, "full, parity error");
+    CHECK(arrives(m, 1, 4) == NQABELIHU_OUTCOME_DROPPED, "dropped");
+    DO(nqabelihu_write_setting(m, 1, NQABELIHU_SETTING_FIFO_KIND, NQABELIHU_FIFO_KIND_CIRCULAR));
+    CHECK(arrives(m, 1, 4) == NQABELIHU_OUTCOME_OVERWRITING, "overwriting");
+    DO(nqabelihu_write_setting(m, 1, NQABELIHU_SETTING_FIFO_KIND, NQABELIHU_FIFO_KIND_BOUNDED));
+    CHECK(arrives(m, 1, 4) == NQABELIHU_OUTCOME_DROPPED, "dropped");
     DO(nqabelihu_read_receive_fifo(m, 1, &entry));
     CHECK(entry.status == 0 && entry.word == 2, "oldest entry");
     DO(nqabelihu_read_receive_fifo(m, 1, &entry));
-    CHECK(entry.status == NQABELIHU_PARITY_WRONG && entry.word == 3 && entry.stamp == 0, "entry with a parity error");
+    CHECK(entry.status == NQABELIHU_ENTRY_PARITY_ERROR && entry.word == 3 && entry.stamp == 0, "entry with a parity error");
     /* Parity off, stamps on, mailbox mode. */
     DO(nqabelihu_advance_stamp(m, 7));
-    DO(nqabelihu_write_setting(m, 1, NQABELIHU_PARITY, 0));
-    DO(nqabelihu_write_setting(m, 1, NQABELIHU_STAMPS, 1));
-    DO(nqabelihu_write_setting(m, 1, NQABELIHU_RECEIVE_MODE, NQABELIHU_MAILBOX));
-    CHECK(arrives(m, 1, 3) == NQABELIHU_APPENDED, "appended");
-    DO(nqabelihu_read_mailbox(m, 1, 3, &entry));
-    CHECK(entry.status == NQABELIHU_NEW && entry.word == 3 && entry.stamp == 7, "new mailbox");
-    DO(nqabelihu_write_setting(m, 1, NQABELIHU_RECEIVE_MODE, NQABELIHU_FIFO));
-    CHECK(nqabelihu_read_receive_fifo(m, 1, &entry) == NQABELIHU_EMPTY, "cleared by the change of mode");
+    DO(nqabelihu_write_setting(m, 1, NQABELIHU_SETTING_PARITY, 0));
+    DO(nqabelihu_write_setting(m, 1, NQABELIHU_SETTING_STAMPS, 1));
+    DO(nqabelihu_write_setting(m, 1, NQABELIHU_SETTING_RECEIVE_MODE, NQABELIHU_RECEIVE_MODE_MAILBOX));
+    CHECK(arrives(m, 1, 3) == NQABELIHU_OUTCOME_APPENDED, "appended");
+    DO(nqabelihu_read_mailbox(m, 1, nqabelihu_at_word(3), &entry));
+    CHECK(entry.status == NQABELIHU_ENTRY_NEW && entry.word == 3 && entry.stamp == 7, "new mailbox");
+    DO(nqabelihu_write_setting(m, 1, NQABELIHU_SETTING_RECEIVE_MODE, NQABELIHU_RECEIVE_MODE_FIFO));
+    CHECK(nqabelihu_read_receive_fifo(m, 1, &entry) == NQABELIHU_REFUSED_EMPTY, "cleared by the change of mode");
 }
 
 static void is_output(nqabelihu_output o, uint32_t form, uint32_t x, uint32_t y, uint32_t z, int line)
@@ -516,53 +523,53 @@ static void transmitting(nqabelihu_memory m)
         NQABELIHU_COMMAND_PAUSE,       NQABELIHU_COMMAND_INTERRUPT,     NQABELIHU_COMMAND_JUMP + 8, 0x7000,
         NQABELIHU_COMMAND_STOP};
     uint32_t at;
-    DO(nqabelihu_write_setting(m, 2, NQABELIHU_ALMOST_EMPTY, 1));
-    DO(nqabelihu_write_setting(m, 2, NQABELIHU_RATE, 9));
+    DO(nqabelihu_write_setting(m, 2, NQABELIHU_SETTING_ALMOST_EMPTY, 1));
+    DO(nqabelihu_write_setting(m, 2, NQABELIHU_SETTING_RATE, 9));
     DO(nqabelihu_write_transmit_fifo(m, 2, 1));
     DO(nqabelihu_write_transmit_fifo(m, 2, 2));
     DO(nqabelihu_write_transmit_fifo(m, 2, 3));
-    STEP(NQABELIHU_QUIET, 0, 0, 0);
-    DO(nqabelihu_write_setting(m, 2, NQABELIHU_TRANSMITTER, 1));
+    STEP(NQABELIHU_FORM_QUIET, 0, 0, 0);
+    DO(nqabelihu_write_setting(m, 2, NQABELIHU_SETTING_TRANSMITTER, 1));
     latched(m, 2);
-    STEP(NQABELIHU_FIFO_WORD, 1, 9, 0);
+    STEP(NQABELIHU_FORM_FIFO_WORD, 1, 9, 0);
     CHECK(latched(m, 2) == 0, "two words left");
-    DO(nqabelihu_write_setting(m, 2, NQABELIHU_TRANSMIT_MODE, NQABELIHU_TRIGGERED));
-    STEP(NQABELIHU_QUIET, 0, 0, 0);
+    DO(nqabelihu_write_setting(m, 2, NQABELIHU_SETTING_TRANSMIT_MODE, NQABELIHU_TRANSMIT_MODE_TRIGGERED));
+    STEP(NQABELIHU_FORM_QUIET, 0, 0, 0);
     DO(nqabelihu_trigger(m, 2));
-    STEP(NQABELIHU_FIFO_WORD, 2, 9, 0);
-    CHECK(latched(m, 2) == NQABELIHU_IS_ALMOST_EMPTY, "almost empty");
+    STEP(NQABELIHU_FORM_FIFO_WORD, 2, 9, 0);
+    CHECK(latched(m, 2) == NQABELIHU_CONDITION_ALMOST_EMPTY, "almost empty");
     DO(nqabelihu_stop(m, 2));
-    DO(nqabelihu_write_setting(m, 2, NQABELIHU_TRANSMIT_MODE, NQABELIHU_IMMEDIATE));
-    STEP(NQABELIHU_FIFO_WORD, 0x80000003, 9, 0);
-    CHECK(latched(m, 2) == NQABELIHU_IS_EMPTY, "empty");
+    DO(nqabelihu_write_setting(m, 2, NQABELIHU_SETTING_TRANSMIT_MODE, NQABELIHU_TRANSMIT_MODE_IMMEDIATE));
+    STEP(NQABELIHU_FORM_FIFO_WORD, 0x80000003, 9, 0);
+    CHECK(latched(m, 2) == NQABELIHU_CONDITION_EMPTY, "empty");
 
     for (at = 0; at < 9; at++)
         DO(nqabelihu_write_schedule(m, 2, at, commands[at]));
     DO(nqabelihu_write_message(m, 2, 1, 0x100));
     DO(nqabelihu_write_message(m, 2, 2, 50));
-    DO(nqabelihu_write_setting(m, 2, NQABELIHU_TRANSMIT_MODE, NQABELIHU_SCHEDULED));
+    DO(nqabelihu_write_setting(m, 2, NQABELIHU_SETTING_TRANSMIT_MODE, NQABELIHU_TRANSMIT_MODE_SCHEDULED));
     DO(nqabelihu_write_async(m, 2, 0x200));
     DO(nqabelihu_trigger(m, 2));
-    STEP(NQABELIHU_MESSAGE, 0x100, 0, 0);
-    STEP(NQABELIHU_NULL_TIME, 50, 0, 0);
-    STEP(NQABELIHU_ASYNC, 4, 0x200, 14);
-    STEP(NQABELIHU_NULL_TIME, 50, 0, 0);
-    STEP(NQABELIHU_QUIET, 0, 0, 0);
-    STEP(NQABELIHU_QUIET, 0, 0, 0);
+    STEP(NQABELIHU_FORM_MESSAGE, 0x100, 0, 0);
+    STEP(NQABELIHU_FORM_NULL_TIME, 50, 0, 0);
+    STEP(NQABELIHU_FORM_ASYNC, 4, 0x200, 14);
+    STEP(NQABELIHU_FORM_NULL_TIME, 50, 0, 0);
+    STEP(NQABELIHU_FORM_QUIET, 0, 0, 0);
+    STEP(NQABELIHU_FORM_QUIET, 0, 0, 0);
     CHECK(latched(m, 2) == 0, "paused before the interrupt");
     DO(nqabelihu_trigger(m, 2));
-    STEP(NQABELIHU_QUIET, 0, 0, 0);
-    CHECK(latched(m, 2) == NQABELIHU_IS_INTERRUPT, "interrupt");
-    STEP(NQABELIHU_QUIET, 0, 0, 0); /* the jump, over the reserved command */
-    STEP(NQABELIHU_QUIET, 0, 0, 0); /* the stop */
-    STEP(NQABELIHU_QUIET, 0, 0, 0);
+    STEP(NQABELIHU_FORM_QUIET, 0, 0, 0);
+    CHECK(latched(m, 2) == NQABELIHU_CONDITION_INTERRUPT, "interrupt");
+    STEP(NQABELIHU_FORM_QUIET, 0, 0, 0); /* the jump, over the reserved command */
+    STEP(NQABELIHU_FORM_QUIET, 0, 0, 0); /* the stop */
+    STEP(NQABELIHU_FORM_QUIET, 0, 0, 0);
     DO(nqabelihu_write_schedule(m, 2, 0, 0x7000));
     DO(nqabelihu_write_schedule(m, 2, 1, NQABELIHU_COMMAND_JUMP + 7));
     DO(nqabelihu_write_schedule(m, 2, 0, NQABELIHU_COMMAND_JUMP + 1));
     DO(nqabelihu_trigger(m, 2));
-    STEP(NQABELIHU_QUIET, 0, 0, 0);
-    STEP(NQABELIHU_QUIET, 0, 0, 0);
-    STEP(NQABELIHU_RESERVED, 7, 0, 0);
+    STEP(NQABELIHU_FORM_QUIET, 0, 0, 0);
+    STEP(NQABELIHU_FORM_QUIET, 0, 0, 0);
+    STEP(NQABELIHU_FORM_RESERVED, 7, 0, 0);
 }
 
 /* Every count has a number of its own. */
@@ -571,10 +578,10 @@ static void fates(nqabelihu_memory m)
     nqabelihu_counts c;
     nqabelihu_entry entry;
     uint32_t at;
-    DO(nqabelihu_write_setting(m, 3, NQABELIHU_RECEIVER, 1));
-    DO(nqabelihu_write_setting(m, 3, NQABELIHU_TRANSMITTER, 1));
-    DO(nqabelihu_write_setting(m, 3, NQABELIHU_FIFO_KIND, NQABELIHU_CIRCULAR));
-    DO(nqabelihu_write_setting(m, 3, NQABELIHU_RECEIVE_SIZE, 4));
+    DO(nqabelihu_write_setting(m, 3, NQABELIHU_SETTING_RECEIVER, 1));
+    DO(nqabelihu_write_setting(m, 3, NQABELIHU_SETTING_TRANSMITTER, 1));
+    DO(nqabelihu_write_setting(m, 3, NQABELIHU_SETTING_FIFO_KIND, NQABELIHU_FIFO_KIND_CIRCULAR));
+    DO(nqabelihu_write_setting(m, 3, NQABELIHU_SETTING_RECEIVE_SIZE, 4));
     for (at = 0; at < 9; at++)
         arrives(m, 3, at);
     DO(nqabelihu_read_receive_fifo(m, 3, &entry));
@@ -591,7 +598,7 @@ static void fates(nqabelihu_memory m)
     latched(m, 3);
     DO(nqabelihu_write_threshold(m, 1));
     DO(nqabelihu_sample(m, 3, 1));
-    CHECK(latched(m, 3) == NQABELIHU_IS_FAULT, "fault");
+    CHECK(latched(m, 3) == NQABELIHU_CONDITION_FAULT, "fault");
 }
 
 /* The description's example: "32,768 failures with threshold 65,535: fault on the last." */
@@ -603,7 +610,7 @@ static void many_failures(nqabelihu_memory m)
         DO(nqabelihu_sample(m, 1, 1));
     CHECK(latched(m, 1) == 0, "no fault after 32,767 failures");
     DO(nqabelihu_sample(m, 1, 1));
-    CHECK(latched(m, 1) == NQABELIHU_IS_FAULT, "fault on failure 32,768");
+    CHECK(latched(m, 1) == NQABELIHU_CONDITION_FAULT, "fault on failure 32,768");
 }
 
 static void meanings(void)
@@ -632,6 +639,7 @@ int main(void)
     random_calls();
     by_name();
     meanings();
+    kit();
     printf("%lu checks of the C interface\n", checks);
     return 0;
 }

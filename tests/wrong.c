@@ -1,9 +1,11 @@
 /*
- * Wrong libraries, to see that boundary.c finds them out: linked with --wrap, each passes calls on to the proved library and does one
- * thing wrong. WRONG picks which.
+ * Wrong libraries, to see that boundary.c and kit.c find them out: linked with --wrap, each passes calls on to the proved library and does one
+ * thing wrong. WRONG picks which, from 1 to LAST_WRONG. Wrong headers stand in wrong_headers/.
  */
 #include <stddef.h>
 #include <stdint.h>
+
+#define LAST_WRONG 23
 
 uint32_t __real_nqabelihu_perform(uint32_t *memory, size_t words, uint32_t *values, size_t places, uint32_t op, uint32_t channel, uint32_t a,
                                   uint32_t b);
@@ -30,6 +32,36 @@ uint32_t __wrap_nqabelihu_label(uint32_t word)
 #else
     return __real_nqabelihu_label(word);
 #endif
+}
+
+/* The other functions of one number; `wrong` is what wrong library `number` gives. */
+#define FIELD(name, number, wrong)               \
+    uint32_t __real_##name(uint32_t given);      \
+    uint32_t __wrap_##name(uint32_t given);      \
+    uint32_t __wrap_##name(uint32_t given)       \
+    {                                            \
+        return WRONG == number ? wrong : __real_##name(given); \
+    }
+
+FIELD(nqabelihu_low_byte, 16, given % 256)                                 /* the label itself */
+FIELD(nqabelihu_sdi, 17, given / 64 % 4)                                   /* two bits of the label */
+FIELD(nqabelihu_data_bits, 18, given / 1024)                               /* with all the bits behind them */
+FIELD(nqabelihu_sign_status, 19, given / 1073741824)                       /* bits 31 and 32 */
+FIELD(nqabelihu_index_of_word, 20, given % 256)                            /* without the SDI */
+FIELD(nqabelihu_with_odd_parity, 21, given % 2147483648)                   /* the parity bit always cleared */
+
+uint32_t __real_nqabelihu_index_of_label(uint32_t label, uint32_t sdi);
+uint32_t __wrap_nqabelihu_index_of_label(uint32_t label, uint32_t sdi);
+uint32_t __wrap_nqabelihu_index_of_label(uint32_t label, uint32_t sdi)
+{
+    return WRONG == 22 ? label % 256 + sdi % 4 * 256 : __real_nqabelihu_index_of_label(label, sdi); /* the octal label in the low byte */
+}
+
+uint32_t __real_nqabelihu_version(void);
+uint32_t __wrap_nqabelihu_version(void);
+uint32_t __wrap_nqabelihu_version(void)
+{
+    return __real_nqabelihu_version() + (WRONG == 23); /* another version than the header's */
 }
 
 uint32_t __wrap_nqabelihu_perform(uint32_t *memory, size_t words, uint32_t *values, size_t places, uint32_t op, uint32_t channel, uint32_t a,

@@ -1,4 +1,7 @@
-// The C interface: the words that a module needs, one call item performed on lent memory, and the label of a word.
+// The C interface: the words that a module needs, one call item performed on lent memory, the fields of a word, and the version.
+pub mod version;
+pub mod words;
+
 use frame::layout::MOST;
 ghost use mathlib.Core.Path.{_≡_};
 ghost use lib.ListN.{length};

@@ -1,6 +1,10 @@
-// Shows ARINC 429 words taken apart. Standard input has the words in hexadecimal; any other byte parts them.
+// Shows ARINC 429 words taken apart. Standard input has them in hexadecimal, one to a line, as `word_text::hex_word` reads a line. A line of blanks
+// alone is passed over, and one that is no word is named by its number.
 use libc::STDIN_FILENO;
 use libc::STDOUT_FILENO;
+use word_text::Line;
+ghost use Prim.Native.Nat.{_≤_};
+ghost use lib.ListN.{length};
 
 // Writes a number in octal, three digits, as a label is listed.
 fn print_label(label: u8) {
@@ -27,55 +31,74 @@ fn show(word: u32) {
     io::write_all(STDOUT_FILENO, b"\n");
 }
 
-// The value of a hexadecimal digit, or 16 for any other byte.
-fn digit(byte: u8) -> u32 {
-    if b'0' <= byte && byte <= b'9' {
-        return (byte - b'0') as u32;
-    }
-    if b'A' <= byte && byte <= b'F' {
-        return (byte - b'A') as u32 + 10;
-    }
-    if b'a' <= byte && byte <= b'f' {
-        return (byte - b'a') as u32 + 10;
-    }
-    16
+fn say_no_word(number: u64) {
+    io::write_all(STDOUT_FILENO, b"line ");
+    io::print_decimal(STDOUT_FILENO, number);
+    io::write_all(STDOUT_FILENO, b": no word\n");
 }
 
-// A word that is being read: what its digits give so far, and whether it has any.
+// The line that is being read: its number from 1, how many of its bytes are kept, and whether it has more than there is room for: then it is no
+// word.
 struct Reading {
-    word: u32,
-    begun: bool,
+    number: u64,
+    kept: usize,
+    longer: bool,
 }
 
-// A word ends here: it is shown.
-fn end_word(reading: Reading) -> Reading {
-    if reading.begun {
-        show(reading.word);
+// The line ends here: it is shown, or named.
+fn end_line(line: &[u8], reading: Reading)
+    requires { ⌜ reading .kept ≤ length (now line) ⌝ }
+{
+    let kept = reading.kept;
+    if reading.longer {
+        say_no_word(reading.number);
+        return;
     }
-    Reading {
-        word: 0,
-        begun: false,
+    match word_text::hex_word(&line[..kept]) {
+        Line::Word(word) => show(word),
+        Line::NoWord => say_no_word(reading.number),
+        Line::Blank => {}
     }
 }
 
-// The next byte of the text. Of more than eight digits the last eight count.
-fn take(reading: Reading, byte: u8) -> Reading {
-    let value = digit(byte);
-    if value < 16 {
+// The next byte of the text.
+fn take(line: &mut [u8], reading: Reading, byte: u8) -> Reading
+    requires { ⌜ reading .kept ≤ length (now line) ⌝ }
+    ensures { λ r. ⌜ r .kept ≤ length (now (line .entry)) ⌝ }
+{
+    if byte == b'\n' {
+        end_line(line, reading);
         return Reading {
-            word: reading.word % 0x1000_0000 * 16 + value,
-            begun: true,
+            number: std::num::wrapping_add_u64(reading.number, 1),
+            kept: 0,
+            longer: false,
         };
     }
-    end_word(reading)
+    let kept = reading.kept;
+    if kept == line.len() {
+        return Reading {
+            number: reading.number,
+            kept,
+            longer: true,
+        };
+    }
+    line[kept] = byte;
+    Reading {
+        number: reading.number,
+        kept: kept + 1,
+        longer: false,
+    }
 }
 
-// A word may go on behind the end of a part of the text.
-fn take_all(reading: Reading, text: &[u8]) -> Reading {
+// A line may go on behind the end of a part of the text.
+fn take_all(line: &mut [u8], reading: Reading, text: &[u8]) -> Reading
+    requires { ⌜ reading .kept ≤ length (now line) ⌝ }
+    ensures { λ r. ⌜ r .kept ≤ length (now (line .entry)) ⌝ }
+{
     let mut reading = reading;
     let mut at = 0;
     while at < text.len() {
-        reading = take(reading, text[at]);
+        reading = take(line, reading, text[at]);
         at += 1;
     }
     reading
@@ -84,16 +107,18 @@ fn take_all(reading: Reading, text: &[u8]) -> Reading {
 // The loop counts its turns down, from a number that no run uses up.
 fn main() {
     let mut buffer = io::buffer();
+    let mut line = [0; 4096];
     let mut reading = Reading {
-        word: 0,
-        begun: false,
+        number: 1,
+        kept: 0,
+        longer: false,
     };
     let mut turns = u64::MAX;
     let mut n = buffer.len();
     while turns > 0 && n == buffer.len() {
         n = io::read_full(STDIN_FILENO, &mut buffer);
-        reading = take_all(reading, &buffer[..n]);
+        reading = take_all(&mut line, reading, &buffer[..n]);
         turns -= 1;
     }
-    end_word(reading);
+    end_line(&line, reading);
 }

@@ -1,3 +1,4 @@
 pub mod Branches
 pub mod Computed
 pub mod Laws
+pub mod Parts

@@ -1,3 +1,4 @@
 pub mod Word
 pub mod Parity
 pub mod Gap
+pub mod Fields
