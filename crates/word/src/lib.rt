@@ -1,7 +1,9 @@
 // The ARINC 429 word: what stands in its 32 bits, its parity, and the null time between words.
 // ARINC bit 1 is D0, bit 32 is D31. Every function takes any number.
 pub mod fields;
+mod labels;
 
+use labels::REVERSED;
 ghost use mathlib.Core.Path.{_≡_};
 ghost use Rattle.word.specs.Word.{label, sdi, index, ones, inError, reversed};
 ghost use Rattle.word.specs.Parity.{oddParity, asSent, errorMark};
@@ -11,14 +13,7 @@ ghost use Rattle.word.specs.Gap.{clamped};
 fn reversed_byte(byte: u8) -> u8
     ensures { λ r. ⌜ r ≡ reversed byte ⌝ }
 {
-    byte % 2 * 128
-        + byte / 2 % 2 * 64
-        + byte / 4 % 2 * 32
-        + byte / 8 % 2 * 16
-        + byte / 16 % 2 * 8
-        + byte / 32 % 2 * 4
-        + byte / 64 % 2 * 2
-        + byte / 128 % 2
+    REVERSED[byte as usize]
 }
 
 // The label, bits 1 to 8: written in octal it is the number that the documents list.
