@@ -279,7 +279,7 @@ static void random_calls(void)
             a = COUNT;
         if (below(8) == 0) {
             /* a number with a range, in the module part or a block */
-            damaged = below(2) == 0 ? below(16) : 16 + 4666 * below(COUNT) + below(22);
+            damaged = below(2) == 0 ? below(NQABELIHU_MODULE_WORDS) : NQABELIHU_MODULE_WORDS + NQABELIHU_CHANNEL_WORDS * below(COUNT) + below(22);
             old = memory[damaged];
             memory[damaged] = edge();
         }

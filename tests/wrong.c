@@ -20,7 +20,7 @@ size_t __wrap_nqabelihu_words(uint32_t count)
 {
 #if WRONG == 1 /* thirteen channels have words */
     if (count == 13)
-        return 16 + 13 * 4666;
+        return 2 * __real_nqabelihu_words(12) - __real_nqabelihu_words(11);
 #endif
     return __real_nqabelihu_words(count);
 }
@@ -98,8 +98,8 @@ uint32_t __wrap_nqabelihu_perform(uint32_t *memory, size_t words, uint32_t *valu
     if (number == 7)
         values[0] = 1;
 #elif WRONG == 10 /* a word beyond the need is written */
-    if (number == 0 && op == 128 && memory[0] == 3 && words > 16 + 3 * 4666)
-        memory[16 + 3 * 4666] = a;
+    if (number == 0 && op == 128 && memory[0] == 3 && words > __real_nqabelihu_words(3))
+        memory[__real_nqabelihu_words(3)] = a;
 #elif WRONG == 11 /* an eighth value is written */
     if (places > 7 && number == 0)
         values[7] = 0;
