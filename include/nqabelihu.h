@@ -133,7 +133,8 @@ enum {
 #define NQABELIHU_ROW_NAME(name, number, text) name = number,
 #define NQABELIHU_ROW_TEXT(name, number, text) NQABELIHU_CASE(number, text)
 
-/* The answer's number. 1 to 7 are tested in this order, behind 24 and then 42: the first that applies is given. */
+/* The answer's number. 1 to 7 are tested in this order, behind 24 and then 42: the first that applies is given. 60 to 64 are those of readings,
+ * tested in this order. */
 #define NQABELIHU_REFUSAL_TABLE(ROW)                                                          \
     ROW(NQABELIHU_DONE, 0, "done")                                                            \
     ROW(NQABELIHU_REFUSED_SHORT, 1, "fewer words lent than the module needs")                 \
@@ -144,7 +145,12 @@ enum {
     ROW(NQABELIHU_REFUSED_FULL, 6, "transmit FIFO holds 255, or an async word already waits") \
     ROW(NQABELIHU_REFUSED_EMPTY, 7, "receive FIFO holds none")                                \
     ROW(NQABELIHU_REFUSED_FEW_VALUES, 24, "fewer than seven words lent for the values")       \
-    ROW(NQABELIHU_REFUSED_NO_CALL, 42, "the op is no call")
+    ROW(NQABELIHU_REFUSED_NO_CALL, 42, "the op is no call")                                   \
+    ROW(NQABELIHU_REFUSED_WRONG_LIST, 60, "an entry of the label list is wrong or cut short") \
+    ROW(NQABELIHU_REFUSED_NOT_LISTED, 61, "label not listed, or a bit field to encode")       \
+    ROW(NQABELIHU_REFUSED_NO_SIGN, 62, "a decimal number without a sign")                     \
+    ROW(NQABELIHU_REFUSED_NO_DIGIT, 63, "a decimal number with a digit above 9")              \
+    ROW(NQABELIHU_REFUSED_VALUE, 64, "a value to encode outside its range")
 
 typedef enum { NQABELIHU_REFUSAL_TABLE(NQABELIHU_ROW_NAME) } nqabelihu_refusal;
 
@@ -835,6 +841,32 @@ NQABELIHU_LOOK static inline int nqabelihu_tally_agrees(const nqabelihu_tally *t
     return tally->offered == accepted + tally->dropped + tally->filtered + tally->ignored && accepted == counts->receive_accepted
            && tally->overwriting == counts->receive_overwritten;
 }
+
+/* ---- readings ---- */
+
+/*
+ * What a word reads as, by a label list, and words with a number in them. The list is lent as 32-bit numbers, three to an entry: the label (as
+ * nqabelihu_label gives it), the kind, and the divisor, a power of two from 1 to 262144, which is read for binary only. The first entry for a
+ * label counts. All of it stands in ARINC bits 11 to 29; a decimal number has its sign in bits 30 and 31. docs/READINGS.md has examples.
+ * Each of these functions keeps the rules above: an empty list may be null, and the results overlap neither the list nor each other.
+ */
+/* The kinds of an entry, and of a reading. */
+typedef enum {
+    NQABELIHU_READING_BINARY = 1,   /* two's complement, -262144 to 262143, divided by the divisor */
+    NQABELIHU_READING_DECIMAL = 2,  /* five digits, -79999 to 79999 */
+    NQABELIHU_READING_BIT_FIELD = 3 /* 0 to 524287; it is read and not encoded */
+} nqabelihu_reading_kind;
+
+enum { NQABELIHU_GREATEST_DIVISOR = 262144 };
+
+/* Reads a word: the result is 0 or the refusal. kind takes 1 to 3, units the value, exact in a double, whatever the kind; zeros if refused. */
+uint32_t nqabelihu_read_word(const uint32_t *list, size_t numbers, uint32_t word, uint32_t *kind, double *units);
+
+/* The whole number in a word: a binary number undivided, a decimal number, or the field; 0 where reading it is refused. */
+int32_t nqabelihu_whole_number(const uint32_t *list, size_t numbers, uint32_t word);
+
+/* Puts a whole number into a word: the result is 0 or the refusal. encoded takes the word, whose other bits stay; 0 if refused. */
+uint32_t nqabelihu_encode_word(const uint32_t *list, size_t numbers, uint32_t word, int32_t value, uint32_t *encoded);
 
 #ifdef __cplusplus
 }

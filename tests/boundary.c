@@ -623,6 +623,69 @@ static void meanings(void)
     many_failures(fresh(words));
 }
 
+/* ---- readings ---- */
+
+/* One reading: its refusal, kind, value and whole number. */
+static void is_read(const uint32_t *list, size_t numbers, uint32_t word, uint32_t number, uint32_t kind, double units, int32_t whole)
+{
+    uint32_t given = 99;
+    double value = 99;
+    uint32_t got = nqabelihu_read_word(list, numbers, word, &given, &value);
+    CHECK(got == number && given == kind && value == units, "reading %08x: %u %u %f", (unsigned)word, (unsigned)got, (unsigned)given, value);
+    CHECK(nqabelihu_whole_number(list, numbers, word) == whole, "whole number of %08x", (unsigned)word);
+}
+
+static void is_encoded(const uint32_t *list, size_t numbers, uint32_t word, int32_t value, uint32_t number, uint32_t encoded)
+{
+    uint32_t given = 99;
+    uint32_t got = nqabelihu_encode_word(list, numbers, word, value, &given);
+    CHECK(got == number && given == encoded, "encoding %ld into %08x: %u %08x", (long)value, (unsigned)word, (unsigned)got, (unsigned)given);
+}
+
+/* The worked examples of docs/READINGS.md, and each refusal. */
+static void word_readings(void)
+{
+    enum { NUMBERS = 12 };
+    static const uint32_t entries[NUMBERS] = {0203, NQABELIHU_READING_BINARY, 4, 0310, NQABELIHU_READING_DECIMAL, 0, 0270, NQABELIHU_READING_BIT_FIELD, 0, 0203, NQABELIHU_READING_DECIMAL, 0};
+    uint32_t *list = between_guards(NUMBERS, AT_END);
+    uint32_t at;
+    for (at = 0; at < NUMBERS; at++)
+        list[at] = entries[at];
+
+    is_read(list, NUMBERS, 0x694708C1, 0, NQABELIHU_READING_BINARY, 38000.5, 152002);
+    is_read(list, NUMBERS, 0x7FC17CC1, 0, NQABELIHU_READING_BINARY, -1000.25, -4001);
+    is_read(list, NUMBERS, 0x1E666413, 0, NQABELIHU_READING_DECIMAL, 79999, 79999);
+    is_read(list, NUMBERS, 0x7E666413, 0, NQABELIHU_READING_DECIMAL, -79999, -79999);
+    is_read(list, NUMBERS, 0x1400141D, 0, NQABELIHU_READING_BIT_FIELD, 327685, 327685);
+    is_encoded(list, NUMBERS, 0x600000C1, 152002, 0, 0x694708C1);
+    is_encoded(list, NUMBERS, 0xFFFFFFC1, -4001, 0, 0xFFC17FC1);
+    is_encoded(list, NUMBERS, 0x80000013, -79999, 0, 0xFE666413);
+    is_encoded(list, NUMBERS, 0x7E666413, 0, 0, 0x00000013);
+
+    is_read(list, NUMBERS, 0x00000093, NQABELIHU_REFUSED_NOT_LISTED, 0, 0, 0);
+    is_read(list, NUMBERS, 0x20000013, NQABELIHU_REFUSED_NO_SIGN, 0, 0, 0);
+    is_read(list, NUMBERS, 0x00002813, NQABELIHU_REFUSED_NO_DIGIT, 0, 0, 0);
+    is_read(NULL, 0, 0x694708C1, NQABELIHU_REFUSED_NOT_LISTED, 0, 0, 0);
+    is_encoded(list, NUMBERS, 0x0000001D, 0, NQABELIHU_REFUSED_NOT_LISTED, 0);
+    is_encoded(list, NUMBERS, 0x000000C1, 262144, NQABELIHU_REFUSED_VALUE, 0);
+    is_encoded(list, NUMBERS, 0x000000C1, INT32_MIN, NQABELIHU_REFUSED_VALUE, 0);
+    is_encoded(list, NUMBERS, 0x00000013, 80000, NQABELIHU_REFUSED_VALUE, 0);
+
+    /* 60: an entry cut short, before the one that counts is looked for; and one wrong number in the last entry */
+    is_read(list, NUMBERS - 1, 0x694708C1, NQABELIHU_REFUSED_WRONG_LIST, 0, 0, 0);
+    is_encoded(list, NUMBERS - 2, 0x694708C1, 0, NQABELIHU_REFUSED_WRONG_LIST, 0);
+    list[NUMBERS - 3] = 256;
+    is_read(list, NUMBERS, 0x694708C1, NQABELIHU_REFUSED_WRONG_LIST, 0, 0, 0);
+    list[NUMBERS - 3] = 255;
+    list[NUMBERS - 2] = 4;
+    is_read(list, NUMBERS, 0x694708C1, NQABELIHU_REFUSED_WRONG_LIST, 0, 0, 0);
+    list[NUMBERS - 2] = NQABELIHU_READING_BINARY;
+    list[NUMBERS - 1] = 3;
+    is_read(list, NUMBERS, 0x694708C1, NQABELIHU_REFUSED_WRONG_LIST, 0, 0, 0);
+    list[NUMBERS - 1] = NQABELIHU_GREATEST_DIVISOR;
+    is_read(list, NUMBERS, 0x694708C1, 0, NQABELIHU_READING_BINARY, 38000.5, 152002);
+}
+
 int main(void)
 {
     values = between_guards(NQABELIHU_VALUES, AT_END);
@@ -640,6 +703,7 @@ int main(void)
     by_name();
     meanings();
     kit();
+    word_readings();
     printf("%lu checks of the C interface\n", checks);
     return 0;
 }

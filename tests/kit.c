@@ -61,7 +61,12 @@ static const row refusals[] = {{0, "done"},
                                {6, "transmit FIFO holds 255, or an async word already waits"},
                                {7, "receive FIFO holds none"},
                                {24, "fewer than seven words lent for the values"},
-                               {42, "the op is no call"}};
+                               {42, "the op is no call"},
+                               {60, "an entry of the label list is wrong or cut short"},
+                               {61, "label not listed, or a bit field to encode"},
+                               {62, "a decimal number without a sign"},
+                               {63, "a decimal number with a digit above 9"},
+                               {64, "a value to encode outside its range"}};
 static const row outcomes[] = {{0, "ignored: the receiver is off"},
                                {1, "filtered: its index is not in the match set"},
                                {2, "appended to the FIFO"},

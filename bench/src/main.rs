@@ -8,6 +8,7 @@
 
 mod alloc;
 mod lists;
+mod readings;
 
 use std::hint::black_box;
 use std::time::Instant;
@@ -156,4 +157,6 @@ fn main() {
         greatest(PROVED),
         greatest(RUST_AGAIN)
     );
+    println!();
+    readings::table();
 }

@@ -1,10 +1,12 @@
 //! A second, independent program for the ARINC 429 channel module.
 //!
 //! The module is written twice: as a model (`model`) and on lent words (`words`). Random call lists
-//! (`lists`) run through both, and `compare` tells the first difference.
+//! (`lists`) run through both, and `compare` tells the first difference. Readings of a word by a label list
+//! (`readings`) have a comparison of their own.
 
 pub mod calls;
 pub mod compare;
+pub mod compare_readings;
 pub mod engine;
 pub mod layout;
 pub mod ledger;
@@ -13,6 +15,9 @@ pub mod model;
 pub mod ops;
 #[cfg(feature = "proved")]
 pub mod proved;
+#[cfg(feature = "proved")]
+pub mod proved_readings;
 pub mod reading;
+pub mod readings;
 pub mod words;
 pub mod writes;

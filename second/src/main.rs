@@ -1,5 +1,6 @@
 //! `second compare --calls N --seed S`: the model against the words on random call lists.
 //! `second compare-proved --calls N --seed S` (feature `proved`): the words against the proved library, answers and the whole memory.
+//! `second readings --seed S` (feature `proved`): readings of words against the proved library.
 //! `second list --calls N --seed S`: the same random calls as 16-byte items, for a program that reads them.
 //! `second replay`: performs a list of 16-byte items from standard input, one answer line for each.
 
@@ -25,6 +26,11 @@ fn main() -> ExitCode {
         #[cfg(feature = "proved")]
         ["compare-proved", "--calls", calls, "--seed", seed] => match (calls.parse(), seed.parse()) {
             (Ok(calls), Ok(seed)) => told(calls, seed, &mut OnWords, &mut second::proved::Proved),
+            _ => wrong_use(),
+        },
+        #[cfg(feature = "proved")]
+        ["readings", "--seed", seed] => match seed.parse() {
+            Ok(seed) => readings(seed),
             _ => wrong_use(),
         },
         ["list", "--calls", calls, "--seed", seed] => match (calls.parse(), seed.parse()) {
@@ -68,6 +74,26 @@ fn told(calls: u64, seed: u64, first: &mut dyn Engine, second: &mut dyn Engine) 
         println!("  {line}");
     }
     ExitCode::FAILURE
+}
+
+/// Compares the readings with those of the proved library and prints what was seen.
+#[cfg(feature = "proved")]
+fn readings(seed: u64) -> ExitCode {
+    use second::compare_readings::{compare, shown, OwnConsole};
+    let start = Instant::now();
+    match compare(200_000, seed, &mut OwnConsole, &mut second::proved_readings::ProvedConsole) {
+        Ok(seen) => {
+            let words = format!("{} words of every field, {} random lists", seen.fields, seen.random);
+            let answers = format!("read ({}), encoded ({})", shown(&seen.read), shown(&seen.encoded));
+            let seconds = start.elapsed().as_secs_f64();
+            println!("readings: {words}; {answers}, {} whole numbers, {seconds:.2} s, no difference", seen.wholes);
+            ExitCode::SUCCESS
+        }
+        Err(difference) => {
+            println!("difference in readings, first this program, second the proved library: {difference}");
+            ExitCode::FAILURE
+        }
+    }
 }
 
 /// The calls of one random list of the seed after the other, until there are enough.
