@@ -11,7 +11,8 @@ use lib.Dec.{eqb, ltb, leb, leb→le}
 use lib.ListN.{length, getD, take, drop}
 use borrow.Rule.Slice.PartAt.{part-to-end}
 use Rattle.word.proofs.Computed.{at}
-use Rattle.word_text.specs.Text.{digit, isBlank, blanks, digits, hexValue, prefix, wordOf, behindBlanks, hexWord}
+use Rattle.text.specs.Bytes.{isBlank, digitOf}
+use Rattle.word_text.specs.Text.{blanks, digits, hexValue, prefix, wordOf, behindBlanks, hexWord}
 use Rattle.word_text.specs.declared.Line.{Line}
 use Rattle.word_text.specs.declared.Line.the-variants.{Word, NoWord}
 
@@ -58,10 +59,10 @@ pub record Taken (l : List ℕ) (k v : ℕ) : Type 0 where
 pub taken-none : (l : List ℕ) → Taken l 0 0
 taken-none l = record { number = refl; value = refl; most = omega arith }
 
-pub taken-on : (l : List ℕ) (k v d : ℕ) → Taken l k v → k < length l → k < 8 → d ≡ digit (getD l k 0) → d < 16 → Taken l (k + 1) (v * 16 + d)
+pub taken-on : (l : List ℕ) (k v d : ℕ) → Taken l k v → k < length l → k < 8 → d ≡ digitOf (getD l k 0) → d < 16 → Taken l (k + 1) (v * 16 + d)
 taken-on l k v d t h b e m =
     let no : eqb k 8 ≡ false = ne-eqb k 8 (omega arith) in
-    let is : eqb (digit (getD l k 0)) 16 ≡ false = ne-eqb (digit (getD l k 0)) 16 (omega (arith, e, m)) in
+    let is : eqb (digitOf (getD l k 0)) 16 ≡ false = ne-eqb (digitOf (getD l k 0)) 16 (omega (arith, e, m)) in
     let s : k + 1 ≡ suc k = omega arith in
     rw (s, e)
     record {
@@ -74,8 +75,8 @@ taken-on l k v d t h b e m =
 pub taken-eight : (l : List ℕ) (k v : ℕ) → Taken l k v → k < length l → k ≡ 8 → (k ≡ digits 0 l) × (v ≡ hexValue 0 0 l)
 taken-eight l k v t h e = rw (t .number, t .value, drop-at l k h, eq-eqb k 8 e) (refl, refl)
 
-pub taken-off : (l : List ℕ) (k v : ℕ) → Taken l k v → k < length l → digit (getD l k 0) ≡ 16 → (k ≡ digits 0 l) × (v ≡ hexValue 0 0 l)
-taken-off l k v t h d = rw (t .number, t .value, drop-at l k h, eq-eqb (digit (getD l k 0)) 16 d) (both (eqb k 8))
+pub taken-off : (l : List ℕ) (k v : ℕ) → Taken l k v → k < length l → digitOf (getD l k 0) ≡ 16 → (k ≡ digits 0 l) × (v ≡ hexValue 0 0 l)
+taken-off l k v t h d = rw (t .number, t .value, drop-at l k h, eq-eqb (digitOf (getD l k 0)) 16 d) (both (eqb k 8))
   where
     both : (b : Bool) → (k ≡ cond b k k) × (v ≡ cond b v v)
     both true = (refl, refl)
@@ -84,9 +85,9 @@ taken-off l k v t h d = rw (t .number, t .value, drop-at l k h, eq-eqb (digit (g
 pub taken-all : (l : List ℕ) (k v : ℕ) → Taken l k v → length l ≤ k → (k ≡ digits 0 l) × (v ≡ hexValue 0 0 l)
 taken-all l k v t h = rw (t .number, t .value, drop-end l k h) (refl, refl)
 
-pub digit-most : (b : ℕ) → b < 256 → digit b ≤ 16
-unfolding digit
-digit-most b h = leb→le (digit b) 16 (at (λ k. leb (digit k) 16) 256 tt b h)
+pub digit-most : (b : ℕ) → b < 256 → digitOf b ≤ 16
+unfolding digitOf
+digit-most b h = leb→le (digitOf b) 16 (at (λ k. leb (digitOf k) 16) 256 tt b h)
 
 -- seven digits write at most a quarter of what eight can
 pub room : (k v : ℕ) → v < 16 ^ k → k < 8 → v < 2 ^ 28
@@ -104,7 +105,7 @@ blanks-within (b ∷ l) = go (isBlank b) (blanks-within l)
 
 pub digits-within : (k : ℕ) (l : List ℕ) → digits k l ≤ k + length l
 digits-within k [] = omega arith
-digits-within k (b ∷ l) = go (eqb k 8) (eqb (digit b) 16) (digits-within (suc k) l)
+digits-within k (b ∷ l) = go (eqb k 8) (eqb (digitOf b) 16) (digits-within (suc k) l)
   where
     go : (s t : Bool) → digits (suc k) l ≤ suc k + length l → cond s k (cond t k (digits (suc k) l)) ≤ k + suc (length l)
     go true t h = omega arith

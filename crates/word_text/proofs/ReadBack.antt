@@ -7,7 +7,8 @@ use native.Mathlib.Omega.{arith}
 use lib.Dec.{T, eqb, eqb→eq}
 use borrow.Author.Tests.{ne-eqb}
 use Rattle.word.proofs.Computed.{at}
-use Rattle.word_text.specs.Text.{digit, isBlank, digits, hexValue, prefix, wordOf, hexWord}
+use Rattle.text.specs.Bytes.{isBlank, digitOf}
+use Rattle.word_text.specs.Text.{digits, hexValue, prefix, wordOf, hexWord}
 use Rattle.word_text.specs.Written.{byteOf, written}
 use Rattle.word_text.specs.declared.Line.the-variants.{Word}
 
@@ -17,9 +18,9 @@ fails : (t : Bool) → T (not t) → t ≡ false
 fails true h = absurd h
 fails false h = refl
 
-read-digit : (q : ℕ) → digit (byteOf (q % 16)) ≡ q % 16
-unfolding digit byteOf
-read-digit q = eqb→eq (digit (byteOf (q % 16))) (q % 16) (at (λ d. eqb (digit (byteOf d)) d) 16 tt (q % 16) (omega arith))
+read-digit : (q : ℕ) → digitOf (byteOf (q % 16)) ≡ q % 16
+unfolding digitOf byteOf
+read-digit q = eqb→eq (digitOf (byteOf (q % 16))) (q % 16) (at (λ d. eqb (digitOf (byteOf d)) d) 16 tt (q % 16) (omega arith))
 
 is-digit : (q : ℕ) → eqb (q % 16) 16 ≡ false
 is-digit q = ne-eqb (q % 16) 16 (omega arith)

@@ -4,16 +4,9 @@ use mathlib.Core.Bool.{Bool, true, cond}
 use mathlib.Core.List.{List, [], _∷_}
 use lib.Dec.{eqb, ltb, leb}
 use lib.ListN.{length, drop, getD}
+use Rattle.text.specs.Bytes.{isBlank, digitOf}
 use Rattle.word_text.specs.declared.Line.{Line}
 use Rattle.word_text.specs.declared.Line.the-variants.{Word, Blank, NoWord}
-
--- the value of a digit 0 to 9, A to F or a to f; 16 for any other byte
-unfoldable pub digit : ℕ → ℕ
-digit b = cond (ltb b 48) 16 (cond (leb b 57) (b - 48) (cond (ltb b 65) 16 (cond (leb b 70) (b - 55) (cond (ltb b 97) 16 (cond (leb b 102) (b - 87) 16)))))
-
--- a space, a tab or a carriage return
-unfoldable pub isBlank : ℕ → Bool
-isBlank b = cond (eqb b 32) true (cond (eqb b 9) true (eqb b 13))
 
 -- how many blanks a text begins with
 abbrev pub blanks : List ℕ → ℕ
@@ -23,12 +16,12 @@ blanks (b ∷ l) = cond (isBlank b) (suc (blanks l)) 0
 -- how many digits there are, eight at most, where k stand before the text
 abbrev pub digits : ℕ → List ℕ → ℕ
 digits k [] = k
-digits k (b ∷ l) = cond (eqb k 8) k (cond (eqb (digit b) 16) k (digits (suc k) l))
+digits k (b ∷ l) = cond (eqb k 8) k (cond (eqb (digitOf b) 16) k (digits (suc k) l))
 
 -- the number that they write, where the k before the text write v
 abbrev pub hexValue : ℕ → ℕ → List ℕ → ℕ
 hexValue k v [] = v
-hexValue k v (b ∷ l) = cond (eqb k 8) v (cond (eqb (digit b) 16) v (hexValue (suc k) (v * 16 + digit b) l))
+hexValue k v (b ∷ l) = cond (eqb k 8) v (cond (eqb (digitOf b) 16) v (hexValue (suc k) (v * 16 + digitOf b) l))
 
 -- "0x" before the digits, in either case, may stand and says nothing
 unfoldable pub prefix : List ℕ → ℕ

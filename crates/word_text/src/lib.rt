@@ -1,53 +1,15 @@
 // Words as text, as people write them in hexadecimal: what a line says. Every function takes any bytes.
+use text::bytes::NO_DIGIT;
+use text::bytes::digit;
+use text::bytes::is_blank;
 ghost use mathlib.Core.Path.{_≡_};
-ghost use Rattle.word_text.specs.Text.{digit, isBlank, blanks, digits, hexValue, prefix, wordOf, behindBlanks, hexWord};
+ghost use Rattle.word_text.specs.Text.{blanks, digits, hexValue, prefix, wordOf, behindBlanks, hexWord};
 
 // What a line of text is.
 pub enum Line {
     Word(u32),
     Blank,
     NoWord,
-}
-
-// What stands for no hexadecimal digit.
-const NO_DIGIT: u32 = 16;
-
-// The value of a hexadecimal digit, in either case; 16 for any other byte.
-fn digit(byte: u8) -> u32
-    ensures { λ r. ⌜ r ≡ digit byte ⌝ }
-{
-    if byte < b'0' {
-        return NO_DIGIT;
-    }
-    if byte <= b'9' {
-        return byte as u32 - 48;
-    }
-    if byte < b'A' {
-        return NO_DIGIT;
-    }
-    if byte <= b'F' {
-        return byte as u32 - 55;
-    }
-    if byte < b'a' {
-        return NO_DIGIT;
-    }
-    if byte <= b'f' {
-        return byte as u32 - 87;
-    }
-    NO_DIGIT
-}
-
-// Whether a byte is a space, a tab or a carriage return.
-fn is_blank(byte: u8) -> bool
-    ensures { λ r. ⌜ r ≡ isBlank byte ⌝ }
-{
-    if byte == b' ' {
-        return true;
-    }
-    if byte == b'\t' {
-        return true;
-    }
-    byte == b'\r'
 }
 
 // How many blanks the text begins with.

@@ -5,7 +5,7 @@ use mathlib.Core.Path.{_≡_, sym, _∙_}
 use native.Mathlib.Omega.{arith}
 use lib.ListN.{length, getD}
 use borrow.Author.Needs.{needs}
-use Rattle.word_text.specs.Text.{digit}
+use Rattle.text.specs.Bytes.{digitOf}
 use Rattle.word_text.proofs.Laws.{Taken, taken-none, taken-on, taken-eight, taken-off, taken-all, digit-most, room}
 use Rattle.word_text.proofs.digits.Statement.{statement}
 use Rattle.word_text.proofs.digits.Tie as tie
@@ -38,14 +38,14 @@ add-value : tie.Need-add-value Inv-loop μ-loop
 add-value c =
     let z = c .before .before .before .before .before in
     let byte = getD (z .before .before .args .text .now) (z .loop .count) 0 in
-    let most : digit byte ≤ 16 = digit-most byte (omega (arith, c .before .before .shared-slice-known2 .given (z .loop .count))) in
+    let most : digitOf byte ≤ 16 = digit-most byte (omega (arith, c .before .before .shared-slice-known2 .given (z .loop .count))) in
     omega (arith, room (z .loop .count) (z .loop .value) (z .loop .inv .2 .most) (omega arith), c .before .digit .ensures, most)
 
 loop-again : tie.Need-loop-again Inv-loop μ-loop
 loop-again c =
     let z = c .before .before .before .before .before in
     let byte = getD (z .before .before .args .text .now) (z .loop .count) 0 in
-    let most : digit byte ≤ 16 = digit-most byte (omega (arith, c .before .before .shared-slice-known2 .given (z .loop .count))) in
+    let most : digitOf byte ≤ 16 = digit-most byte (omega (arith, c .before .before .shared-slice-known2 .given (z .loop .count))) in
     let m : c .before .digit .result < 16 = omega (arith, c .before .digit .ensures, most) in (
       omega arith,
       omega arith,
