@@ -2,21 +2,19 @@
 -- Assumes nothing.
 use mathlib.Core.Path.{_≡_, refl, sym, ap, _∙_}
 use mathlib.Core.Bool.{Bool, true, false, true≢false}
-use mathlib.Core.List.{List}
 use Prim.Native.Nat.{ℕ, zero, suc, _+_, _-_, _*_, _/_, _%_, _^_, _≤_, _<_}
 use native.Mathlib.Nat.{mul-one, mul-assoc, mul-comm, mul-pos, mul-le-mul, pow-suc, mul-mod-left, add-mul-mod-self-right, mul-right-comm, add-mul, add-comm, div-add-mod'}
 use native.Mathlib.Omega.{arith}
 use lib.Dec.{T, le→leb, lt→ltb}
 use lib.IntN.{ℤ, pos, negsuc, natAbs}
 use lib.Pow.{pow-add, pow-pos, pow-mono}
-use lib.Ieee.{binary64, round, mul, ofInt, inFloat, inSigned, toSigned, unlike}
-use lib.Ieee.Exact.{HasValue}
+use lib.Ieee.{binary64, round, ofInt, inFloat, inSigned, toSigned}
 use lib.Ieee.Back.{positive-back, negative-back}
 use lib.Ieee.Scale.{round-same}
 use Rattle.readings.specs.Signs.{signed, minus}
 use Rattle.readings.specs.Reading.{inUnits}
-use Rattle.readings.specs.Units.{ths, scaled, countOf, firstDigit, nextRest, restAfter}
-use Rattle.readings.proofs.Exact.{mul-value, like-plus, of-int, holds, units-exact}
+use Rattle.readings.specs.Units.{ths, scaled, countOf, nextRest, restAfter}
+use Rattle.readings.proofs.Exact.{mul-value, like-plus, holds, units-exact}
 
 -- the count of a whole number over 2 ^ k
 abbrev parts : ℕ → ℕ → ℕ

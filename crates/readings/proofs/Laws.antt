@@ -1,7 +1,7 @@
 -- What readings and encodings mean together (paper 02, (iv)).
 -- Assumes nothing.
 use mathlib.Core.Path.{_≡_, refl, sym, ap, _∙_}
-use mathlib.Core.Bool.{Bool, true, false, cond, true≢false}
+use mathlib.Core.Bool.{Bool, true, false, cond}
 use mathlib.Core.List.{List}
 use Prim.Native.Nat.{ℕ, zero, suc, _*_, _/_, _%_, _^_, _≤_, _<_}
 use native.Mathlib.Omega.{arith}
@@ -10,14 +10,13 @@ use lib.IntN.{ℤ, pos, negsuc, negℤ, natAbs}
 use lib.Signed.{mag}
 use lib.Ieee.{Float, binary64, mul, ofInt, inSigned}
 use lib.Ieee.Exact.{HasValue}
-use borrow.Author.Tests.{lt-ltb, le-ltb, eq-eqb, ne-eqb, eqb-true, eqb-false, ltb-true, ltb-false}
+use borrow.Author.Tests.{lt-ltb, le-ltb, eqb-true, ltb-true, ltb-false}
 use Rattle.word.specs.Word.{label}
 use Rattle.readings.specs.declared.reading.WholeNumber.{WholeNumber}
 use Rattle.readings.specs.declared.encoding.Encoded.{Encoded}
-use Rattle.readings.specs.Signs.{signed, minus}
+use Rattle.readings.specs.Signs.{minus}
 use Rattle.readings.specs.Bits.{field, sign, plus, minusSign, half, full, withField, withSign, twosComplement, twosField}
 use Rattle.readings.specs.Digits.{lower, greatestDecimal, digitAbove9, ofDigits, toDigits}
-use Rattle.readings.specs.declared.reading.Reading.{Reading}
 use Rattle.readings.specs.declared.reading.Reading.the-variants.{Binary, Decimal, Bits, Refused}
 use Rattle.readings.specs.Entries.{binary, decimal, bitField, isDivisor, listWrong, entryFor}
 use Rattle.readings.specs.Reading.{accepted, refused, decimalWhole, wholeBy, whole, inUnits, shown, readingBy, reading}
@@ -25,7 +24,7 @@ use Rattle.readings.specs.Units.{ths, scaled, countOf}
 use Rattle.readings.specs.Encoding.{made, unmade, binaryEncoded, decimalEncoded, encodedBy, encoded}
 use Rattle.readings.proofs.Places.{field-is, field-rest, field-same, field-below-full, above-field, sign-is, sign-field, sign-rest, below-sign, sign-same, twos-told, twos-again, twos-below}
 use Rattle.readings.proofs.Decimal.{field-below, number-below, of-to, to-right, to-of}
-use Rattle.readings.proofs.Divisors.{Power, divisor-power, divisor-of}
+use Rattle.readings.proofs.Divisors.{divisor-power, divisor-of}
 use Rattle.readings.proofs.Exact.{units-exact, units-back}
 use Rattle.readings.proofs.Counts.{count-is, count-size as size-of, count-minus as sign-of}
 

@@ -12,7 +12,7 @@ use mir.Val.{toZ, ofZ, bits, hbits, Fits, SFits}
 use mir.ValLaws.{half-full}
 use mir.Facts.{toZ-ofZ, toZ-pos}
 use borrow.Author.Tests.{le-ltb}
-use Rattle.readings.specs.Signs.{signed, minus}
+use Rattle.readings.specs.Signs.{minus}
 
 below-zero : (v : ℤ) → ltZ v (pos 0) ≡ minus v
 below-zero (pos n) = le-ltb n 0 zero-le

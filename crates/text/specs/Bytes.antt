@@ -1,5 +1,5 @@
 -- What a byte of a text stands for, in every program here that reads words and numbers.
-use Prim.Native.Nat.{ℕ, _-_, _+_}
+use Prim.Native.Nat.{ℕ, _-_}
 use mathlib.Core.Bool.{Bool, true, false, cond}
 use lib.Dec.{eqb, ltb}
 

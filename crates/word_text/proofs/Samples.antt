@@ -1,11 +1,9 @@
 -- What some lines say, computed: the definition is pinned down beside the code.
 -- Assumes nothing.
 use mathlib.Core.Path.{_≡_, refl}
-use mathlib.Core.List.{List, [], _∷_}
-use Prim.Native.Nat.{ℕ}
+use mathlib.Core.List.{[], _∷_}
 use Rattle.text.specs.Bytes.{isBlank, digitOf}
 use Rattle.word_text.specs.Text.{prefix, wordOf, hexWord}
-use Rattle.word_text.specs.declared.Line.{Line}
 use Rattle.word_text.specs.declared.Line.the-variants.{Word, Blank, NoWord}
 
 -- "0x6000012B"

@@ -1,8 +1,8 @@
 -- What a line of text says: a word in hexadecimal, nothing, or something else. A text is the list of its bytes.
-use Prim.Native.Nat.{ℕ, zero, suc, _+_, _*_, _-_}
-use mathlib.Core.Bool.{Bool, true, cond}
+use Prim.Native.Nat.{ℕ, suc, _+_, _*_, _-_}
+use mathlib.Core.Bool.{cond}
 use mathlib.Core.List.{List, [], _∷_}
-use lib.Dec.{eqb, ltb, leb}
+use lib.Dec.{eqb, ltb}
 use lib.ListN.{length, drop, getD}
 use Rattle.text.specs.Bytes.{isBlank, digitOf}
 use Rattle.word_text.specs.declared.Line.{Line}
