@@ -37,7 +37,7 @@ fn reset_channels(mem: &mut [u32])
 pub fn reset(mem: &mut [u32]) -> u32
     ensures { λ r. ⌜ (r ≡ wideRefusal (now (mem .entry))) × (now (mem .exit) ≡ resetAfter (now (mem .entry))) ⌝ }
 {
-    let refusal = wide::refusals::wide_refusal(mem);
+    let refusal = frame::channels::wide_refusal(mem);
     if refusal != 0 {
         return refusal;
     }

@@ -1,9 +1,9 @@
 // A module-wide call on a module's memory.
 use crate::calls::WideCall;
 use crate::refusals::call_refusal;
-use crate::refusals::wide_refusal;
 use crate::rule::rule_all;
 use channel_calls::calls::Answer;
+use frame::channels::wide_refusal;
 use frame::layout::RESOLUTION;
 use frame::layout::STAMP;
 use frame::layout::THRESHOLD;

@@ -1,9 +1,9 @@
--- `wide::refusals::is_channel_sound` meets its contract, from what `is_sound` ensures of the part that is lent.
+-- `frame::channels::is_channel_sound` meets its contract, from what `is_sound` ensures of the part that is lent.
 -- Assumes nothing.
 use Rattle.frame.proofs.Blocks.{part-is}
 use borrow.Author.Needs.{needs}
-use Rattle.wide.proofs.refusals.is_channel_sound.Statement.{statement}
-use Rattle.wide.proofs.refusals.is_channel_sound.Tie as tie
+use Rattle.frame.proofs.channels.is_channel_sound.Statement.{statement}
+use Rattle.frame.proofs.channels.is_channel_sound.Tie as tie
 
 returns : tie.Need-returns
 returns c = rw part-is at (c .is-sound .ensures)

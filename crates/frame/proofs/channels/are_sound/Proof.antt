@@ -1,16 +1,16 @@
--- `wide::refusals::are_sound` meets its contract: what is told so far is told of the channels up to the number tested.
+-- `frame::channels::are_sound` meets its contract: what is told so far is told of the channels up to the number tested.
 -- Assumes nothing.
 use Rattle.block.specs.Layout.{word}
 use Rattle.frame.specs.Layout.{count}
 use borrow.Author.Needs.{needs}
 use Prim.Native.Nat.{_≤_, _-_}
 use mathlib.Core.Path.{_≡_, refl, ap₂}
 use mathlib.Core.Bool.{_&&_}
 use native.Mathlib.Numerals.{add-one}
 use native.Mathlib.Omega.{arith}
 use Rattle.frame.specs.Refusals.{soundTo}
-use Rattle.wide.proofs.refusals.are_sound.Statement.{statement}
-use Rattle.wide.proofs.refusals.are_sound.Tie as tie
+use Rattle.frame.proofs.channels.are_sound.Statement.{statement}
+use Rattle.frame.proofs.channels.are_sound.Tie as tie
 
 abbrev Inv-loop : tie.InvT-loop
 Inv-loop mem count sound₀ tested₀ sound tested = (tested ≤ count) × (sound ≡ soundTo mem tested)

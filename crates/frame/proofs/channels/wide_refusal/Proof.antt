@@ -1,12 +1,12 @@
--- `wide::refusals::wide_refusal` meets its contract: each branch is a case of the definition.
+-- `frame::channels::wide_refusal` meets its contract: each branch is a case of the definition.
 -- Assumes nothing.
 use mathlib.Core.Path.{sym, _∙_}
 use Rattle.word.proofs.Branches.{branches}
 use Rattle.frame.specs.Refusals.{wideRefusal}
 use Rattle.frame.proofs.Refused.{standing}
 use borrow.Author.Needs.{needs}
-use Rattle.wide.proofs.refusals.wide_refusal.Statement.{statement}
-use Rattle.wide.proofs.refusals.wide_refusal.Tie as tie
+use Rattle.frame.proofs.channels.wide_refusal.Statement.{statement}
+use Rattle.frame.proofs.channels.wide_refusal.Tie as tie
 
 are-sound-requires : tie.Need-are-sound-requires
 are-sound-requires c κs = standing _ (sym (c .before .part-refusal .ensures) ∙ c .if1 .taken) .frame
