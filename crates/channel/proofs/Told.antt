@@ -26,11 +26,11 @@ use Rattle.receive.specs.Reading.{shown}
 use Rattle.receive.proofs.Bounds.{bounds, full}
 use Rattle.receive.proofs.Laws.{read-answer}
 use Rattle.transmit.specs.Step.{oldestWord, stepOutput}
-use Rattle.transmit.proofs.Laws.{Sends, step-sends, scheduled-gives-none}
+use Rattle.transmit.proofs.Laws.{Sends, step-sends, scheduled-gives-none, unscheduled-quiet, off-quiet}
 use Rattle.channel_calls.specs.Answers.{settingNumber, answerUnless}
 use Rattle.channel_calls.specs.Refusals.{receiveCallRefusal, channelRefusal}
 use Rattle.channel_calls.proofs.Accepted.{setting-in}
-use Rattle.channel_calls.proofs.Exact.{read-refusal, write-refusal, trigger-refusal}
+use Rattle.channel_calls.proofs.Exact.{read-refusal, write-refusal, trigger-refusal, async-refusal}
 use Rattle.channel_calls.specs.declared.calls.SettingCall.the-variants.{WriteSetting, ReadSetting}
 use Rattle.channel_calls.specs.declared.calls.ReadCall.the-variants.{ReadCounts, ReadReceiveLevel, ReadTransmitLevel, ReadAsync}
 use Rattle.channel_calls.specs.declared.calls.ReceiveCall.the-variants.{Arrive, ReadFifo, ReadMailbox}
@@ -38,10 +38,11 @@ use Rattle.channel_calls.specs.declared.calls.TransmitCall.the-variants.{WriteF
 use Rattle.channel_calls.specs.declared.calls.ChannelCall.{ChannelCall}
 use Rattle.channel_calls.specs.declared.calls.ChannelCall.the-variants.{Settings, Memories, Status, Tests, Reads, Receive, Transmit}
 use Rattle.channel_calls.specs.declared.calls.Given.{Given}
-use Rattle.channel_calls.specs.declared.calls.Answer.the-variants.{Value, Arrived, Stepped}
+use Rattle.channel_calls.specs.declared.calls.Answer.{Answer}
+use Rattle.channel_calls.specs.declared.calls.Answer.the-variants.{Refused, Value, Arrived, Stepped}
 use Rattle.channel.specs.Groups.{entryAnswer, receiveAnswer}
 use Rattle.channel.specs.Channel.{blockAnswer}
-use Rattle.channel.specs.Told.{oldestOf, outcomeBy, ArrivalTold, WordTold, Told}
+use Rattle.channel.specs.Told.{oldestOf, outcomeBy, ArrivalTold, WordTold, StepTold, Told}
 
 -- a FIFO holds as many entries as its level says
 level-held : (p : Offsets) (b : List ℕ) → length (fifo p b .held) ≡ word b (p .level)
@@ -89,9 +90,8 @@ module _ (b : List ℕ) where
           let some : 0 < word b receiveLevel = omega (arith, eqb-false (word b receiveLevel) 0 e) in
           ap entryAnswer (read-answer b some ∙ r)
 
-  step-told : Usable b → (w gap : ℕ) → Stepped (stepOutput b) ≡ Stepped (FifoWord w gap) → WordTold (keptOf b) w gap
-  step-told u w gap e =
-      let o : stepOutput b ≡ FifoWord w gap = cc in
+  word-told : Usable b → (w gap : ℕ) → stepOutput b ≡ FifoWord w gap → WordTold (keptOf b) w gap
+  word-told u w gap o =
       let s : Sends b (stepOutput b) = step-sends u (ap isFifoWord o) in
       let w-is : w ≡ asSent (word b parity) (oldestWord b) = cc (s .output) in
       let gap-is : gap ≡ word b rate = cc (s .output) in
@@ -107,6 +107,21 @@ module _ (b : List ℕ) where
       go true p q = absurd (true≢false (sym q ∙ scheduled-gives-none b p))
       go false p q = refl
 
+  step-told : Usable b → StepTold (keptOf b) (Stepped (stepOutput b))
+  step-told u =
+      record {
+        output = stepOutput b;
+        answer = refl;
+        off = λ e. off-quiet b (rw (setting-kept b transmitter (omega arith)) at e);
+        quiet = λ e. unscheduled-quiet u (rw (setting-kept b transmitMode (omega arith)) at e);
+        sends = word-told u;
+      }
+
+  -- "Async is refused with 5 outside scheduled mode"
+  async-told : (w : ℕ) (a : Answer) → Usable b → eqb (word (keptOf b .settings) transmitMode) scheduled ≡ false
+      → answerUnless (channelRefusal (Transmit (WriteAsync w)) b) a ≡ Refused 5
+  async-told w a u e = rw (async-refusal w u (rw (setting-kept b transmitMode (omega arith)) at e)) refl
+
   pub told : (g : Given) (k : ChannelCall) → Usable b → shown (oldestOf (fifo receiveOffsets b)) ≡ oldestOf (fifo receiveOffsets b)
       → Told (keptOf b) k (answerUnless (channelRefusal k b) (blockAnswer g k b))
   unfolding settingRefusal
@@ -114,7 +129,7 @@ module _ (b : List ℕ) where
   told g (Settings (ReadSetting s)) u r = ap Value (sym (setting-kept b (settingNumber s) (setting-in s)))
   told g (Memories k) u r = tt
   told g (Status k) u r = tt
-  told g (Tests k) u r = tt
+  told g (Tests k) u r = refl
   told g (Reads ReadCounts) u r = refl
   told g (Reads ReadReceiveLevel) u r = ap Value (sym (level-held receiveOffsets b))
   told g (Reads ReadTransmitLevel) u r = ap Value (sym (level-held transmitOffsets b))
@@ -123,7 +138,7 @@ module _ (b : List ℕ) where
   told g (Receive ReadFifo) u r = read-told r
   told g (Receive (ReadMailbox i)) u r = tt
   told g (Transmit (WriteFifo w)) u r = rw (write-refusal w u, level-held transmitOffsets b) refl
-  told g (Transmit (WriteAsync w)) u r = tt
+  told g (Transmit (WriteAsync w)) u r = async-told w _ u
   told g (Transmit Trigger) u r = rw (trigger-refusal b, setting-kept b transmitter (omega arith)) refl
   told g (Transmit Pause) u r = refl
   told g (Transmit Stop) u r = refl

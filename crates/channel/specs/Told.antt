@@ -1,6 +1,6 @@
 -- What an answer to a call on a channel is, by what a history keeps of the channel before the call (paper 01, "Fates").
--- A history does not know the match set, the mailboxes, both RAMs, the masks, the transmitter's state and the async word: of what is read
--- of these nothing is said here, and the contract of `perform` alone says it.
+-- A history does not know the match set, the mailboxes, both RAMs, the masks, the transmitter's state and the async word. What is read of these,
+-- and the refusals of calls on them by the range of an argument or with 6, the contract of `perform` alone says.
 use Prim.Native.Nat.{ℕ, _<_}
 use mathlib.Core.Path.{_≡_}
 use mathlib.Core.Bool.{Bool, true, false, cond}
@@ -14,10 +14,13 @@ use Rattle.block.specs.Modes.{bounded, scheduled}
 use Rattle.block.specs.Ranges.{inRange}
 use Rattle.block.specs.Fifos.{Fifo}
 use Rattle.block.specs.Kept.{Kept}
-use Rattle.schedule.specs.declared.Output.the-variants.{FifoWord}
+use Rattle.schedule.specs.Output.{isFifoWord}
+use Rattle.schedule.specs.declared.Output.{Output}
+use Rattle.schedule.specs.declared.Output.the-variants.{Quiet, FifoWord}
 use Rattle.receive.specs.declared.Arrival.{Arrival}
 use Rattle.receive.specs.declared.Arrival.the-variants.{Ignored, Filtered, Appended, Dropped, Overwriting}
 use Rattle.channel_calls.specs.Answers.{settingNumber, answerUnless}
+use Rattle.channel_calls.specs.Refusals.{testCallRefusal}
 use Rattle.channel_calls.specs.declared.calls.SettingCall.the-variants.{WriteSetting, ReadSetting}
 use Rattle.channel_calls.specs.declared.calls.ReadCall.the-variants.{ReadCounts, ReadReceiveLevel, ReadTransmitLevel, ReadAsync}
 use Rattle.channel_calls.specs.declared.calls.ReceiveCall.the-variants.{Arrive, ReadFifo, ReadMailbox}
@@ -25,7 +28,7 @@ use Rattle.channel_calls.specs.declared.calls.TransmitCall.the-variants.{WriteF
 use Rattle.channel_calls.specs.declared.calls.ChannelCall.{ChannelCall}
 use Rattle.channel_calls.specs.declared.calls.ChannelCall.the-variants.{Settings, Memories, Status, Tests, Reads, Receive, Transmit}
 use Rattle.channel_calls.specs.declared.calls.Answer.{Answer}
-use Rattle.channel_calls.specs.declared.calls.Answer.the-variants.{Done, Value, Fates, Arrived, Stepped}
+use Rattle.channel_calls.specs.declared.calls.Answer.the-variants.{Done, Refused, Value, Fates, Arrived, Stepped}
 use Rattle.channel.specs.Groups.{entryAnswer}
 
 -- the oldest entry held
@@ -61,14 +64,22 @@ module _ (h : Kept) where
     pub is-word : w ≡ asSent (word (h .settings) parity) oldest
     pub is-gap : gap ≡ word (h .settings) rate
 
+  -- a step: "Transmitter off: quiet"; outside scheduled mode it gives a word of the FIFO or is quiet
+  pub record StepTold (a : Answer) : Type 0 where
+    pub output : Output
+    pub answer : a ≡ Stepped output
+    pub off : eqb (word (h .settings) transmitter) 0 ≡ true → output ≡ Quiet
+    pub quiet : eqb (word (h .settings) transmitMode) scheduled ≡ false → isFifoWord output ≡ false → output ≡ Quiet
+    pub sends : (w gap : ℕ) → output ≡ FifoWord w gap → WordTold w gap
+
   -- "7 empty: receive FIFO read with none held"; "6 full: transmit FIFO written while it holds 255"; trigger "refused with 5 if the
-  -- transmitter is off"; "Each is a 32-bit count that rolls over, read by a call": h has the counts as their words hold them
+  -- transmitter is off"; "Async is refused with 5 outside scheduled mode"; "Each is a 32-bit count that rolls over, read by a call": h has the counts as their words hold them
   abbrev pub Told : ChannelCall → Answer → Type 0
   Told (Settings (WriteSetting s v)) a = a ≡ answerUnless (writeRefusal (settingNumber s) v) Done
   Told (Settings (ReadSetting s)) a = a ≡ Value (word (h .settings) (settingNumber s))
   Told (Memories k) a = Unit
   Told (Status k) a = Unit
-  Told (Tests k) a = Unit
+  Told (Tests k) a = a ≡ answerUnless (testCallRefusal k) Done
   Told (Reads ReadCounts) a =
       a
       ≡ Fates (h .receive .accepted) (h .receive .taken) (h .receive .cleared) (h .overwritten) (h .transmit .accepted) (h .transmit .taken)
@@ -80,8 +91,8 @@ module _ (h : Kept) where
   Told (Receive ReadFifo) a = a ≡ answerUnless (cond (eqb (length (h .receive .held)) 0) 7 0) (entryAnswer (oldestOf (h .receive)))
   Told (Receive (ReadMailbox i)) a = Unit
   Told (Transmit (WriteFifo w)) a = a ≡ answerUnless (cond (eqb (length (h .transmit .held)) slots) 6 0) Done
-  Told (Transmit (WriteAsync w)) a = Unit
+  Told (Transmit (WriteAsync w)) a = eqb (word (h .settings) transmitMode) scheduled ≡ false → a ≡ Refused 5
   Told (Transmit Trigger) a = a ≡ answerUnless (cond (eqb (word (h .settings) transmitter) 0) 5 0) Done
   Told (Transmit Pause) a = a ≡ Done
   Told (Transmit Stop) a = a ≡ Done
-  Told (Transmit Step) a = (w gap : ℕ) → a ≡ Stepped (FifoWord w gap) → WordTold w gap
+  Told (Transmit Step) a = StepTold a

@@ -1,19 +1,22 @@
 -- Where the refusals that hang on what a FIFO holds and on the transmitter are given, and where not.
 -- Assumes nothing.
-use Prim.Native.Nat.{ℕ, _≤_}
+use Prim.Native.Nat.{ℕ, _≤_, _<_}
 use mathlib.Core.Path.{_≡_, refl, ap}
 use mathlib.Core.Bool.{Bool, true, false, cond}
-use mathlib.Core.List.{List}
+use mathlib.Core.List.{List, [], _∷_}
 use native.Mathlib.Omega.{arith}
-use borrow.Author.Tests.{eqb-true, eqb-false, le-ltb}
+use borrow.Author.Tests.{eqb-true, eqb-false, le-ltb, lt-ltb}
 use lib.Dec.{eqb, ltb}
 use Rattle.ring.specs.Ring.{slots, lastSlot}
-use Rattle.block.specs.Layout.{word, transmitter, receiveLevel, transmitLevel}
+use Rattle.block.specs.Layout.{word, transmitter, transmitMode, receiveLevel, transmitLevel}
+use Rattle.block.specs.Modes.{scheduled}
 use Rattle.block.specs.Ranges.{leasts, greatests, Usable}
 use Rattle.block.proofs.Sound.{at-most}
+use Rattle.channel_calls.specs.Answers.{numbersOf}
 use Rattle.channel_calls.specs.Refusals.{above, below, receiveCallRefusal, transmitCallRefusal}
 use Rattle.channel_calls.specs.declared.calls.ReceiveCall.the-variants.{ReadFifo}
-use Rattle.channel_calls.specs.declared.calls.TransmitCall.the-variants.{WriteFifo, Trigger}
+use Rattle.channel_calls.specs.declared.calls.TransmitCall.the-variants.{WriteFifo, WriteAsync, Trigger}
+use Rattle.channel_calls.specs.declared.calls.Answer.the-variants.{Fates}
 
 -- below 1 is 0
 below-one : (x : ℕ) → ltb x 1 ≡ eqb x 0
@@ -43,3 +46,14 @@ write-refusal w {b} u = ap (λ (t : Bool). cond t 6 0) (go (eqb (word b transmit
 pub trigger-refusal : (b : List ℕ) → transmitCallRefusal Trigger b ≡ cond (eqb (word b transmitter) 0) 5 0
 unfolding below
 trigger-refusal b = ap (λ (t : Bool). cond t 5 0) (below-one (word b transmitter))
+
+-- "Async is refused with 5 outside scheduled mode"
+pub async-refusal : (w : ℕ) {b : List ℕ} → Usable b → eqb (word b transmitMode) scheduled ≡ false → transmitCallRefusal (WriteAsync w) b ≡ 5
+unfolding below leasts greatests
+async-refusal w {b} u e =
+    let less : word b transmitMode < scheduled = omega (arith, at-most u transmitMode (omega arith), eqb-false (word b transmitMode) scheduled e) in
+    rw (lt-ltb (word b transmitMode) scheduled less) refl
+
+-- the numbers of a counts read, in the order in which the answer names them
+pub counts-listed : (n a r c o t s d : ℕ) → numbersOf n (Fates a r c o t s d) ≡ 0 ∷ a ∷ r ∷ c ∷ o ∷ t ∷ s ∷ d ∷ []
+counts-listed n a r c o t s d = refl

@@ -22,7 +22,7 @@ use Rattle.receive.specs.declared.Arrival.{Arrival}
 use Rattle.receive.specs.declared.Arrival.the-variants.{Ignored, Filtered, Appended, Dropped, Overwriting}
 use Rattle.receive.proofs.Laws.{entry-shown}
 use Rattle.channel.specs.Groups.{entryAnswer}
-use Rattle.channel.specs.Told.{oldestOf, outcomeBy, ArrivalTold, WordTold, Told}
+use Rattle.channel.specs.Told.{oldestOf, outcomeBy, ArrivalTold, WordTold, StepTold, Told}
 use Rattle.channel_calls.specs.Answers.{settingNumber, answerUnless}
 use Rattle.channel_calls.specs.declared.calls.SettingCall.the-variants.{WriteSetting, ReadSetting}
 use Rattle.channel_calls.specs.declared.calls.TestCall.the-variants.{Sample, ResetTest, InitiateTest}
@@ -183,9 +183,10 @@ module _ (h : Kept) (r : Every Readable (h .receive .held)) where
           subst (λ (x : Answer). Fits Receiving (readChange x) (h .receive)) (sym q)
           (some, first-readable (h .receive .held) r some .three)
 
-  step-fits : (a : Answer) → ((w gap : ℕ) → a ≡ Stepped (FifoWord w gap) → WordTold (reduced h) w gap)
-      → Fits Transmitting (stepChange (word (h .settings) transmitMode) a) (h .transmit)
-  step-fits a t = by-step a t
+  step-fits : (a : Answer) → StepTold (reduced h) a → Fits Transmitting (stepChange (word (h .settings) transmitMode) a) (h .transmit)
+  step-fits a t =
+      subst (λ (x : Answer). Fits Transmitting (stepChange (word (h .settings) transmitMode) x) (h .transmit)) (sym (t .answer))
+      (by-output (t .output) (t .sends))
     where
       sent : (w gap : ℕ) → WordTold (reduced h) w gap → (b : Bool) → Fits Transmitting (cond b Stays (Takes (w ∷ []))) (h .transmit)
       sent w gap s true = tt
@@ -195,7 +196,7 @@ module _ (h : Kept) (r : Every Readable (h .receive .held)) where
             ∙ ap (λ (x : List (List ℕ)). aside Transmitting (getD x 0 [])) (sym (s .first)),
       )
 
-      by-output : (o : Output) → ((w gap : ℕ) → Stepped o ≡ Stepped (FifoWord w gap) → WordTold (reduced h) w gap)
+      by-output : (o : Output) → ((w gap : ℕ) → o ≡ FifoWord w gap → WordTold (reduced h) w gap)
           → Fits Transmitting (outputChange (word (h .settings) transmitMode) o) (h .transmit)
       by-output Quiet t = tt
       by-output (FifoWord w gap) t = sent w gap (t w gap refl) (eqb (word (h .settings) transmitMode) scheduled)
@@ -203,17 +204,6 @@ module _ (h : Kept) (r : Every Readable (h .receive .held)) where
       by-output (Null g) t = tt
       by-output (Async w rest) t = tt
       by-output (Reserved at) t = tt
-
-      by-step : (a : Answer) → ((w gap : ℕ) → a ≡ Stepped (FifoWord w gap) → WordTold (reduced h) w gap)
-          → Fits Transmitting (stepChange (word (h .settings) transmitMode) a) (h .transmit)
-      by-step Done t = tt
-      by-step (Refused n) t = tt
-      by-step (Value x) t = tt
-      by-step (Waiting m w) t = tt
-      by-step (Fates a b c d e u v) t = tt
-      by-step (Arrived o) t = tt
-      by-step (Entry x w u) t = tt
-      by-step (Stepped o) t = by-output o t
 
   -- both FIFOs
   abbrev BothFit : Effect → Type 0

@@ -7,7 +7,7 @@ use mathlib.Core.List.{List, [], _∷_, _++_}
 use native.Mathlib.Omega.{arith}
 use borrow.Author.Tests.{eqb-true, le-ltb}
 use lib.Dec.{eqb}
-use lib.ListN.{length, take, drop, length-append, length-take, take-append-drop}
+use lib.ListN.{length, take, drop, length-take}
 use Rattle.block.specs.Counts.{rolled}
 use Rattle.block.specs.Fifos.{Fifo, Change, Stays, Adds, Overwrites, Takes, Clears, Begins, changed, overwrittenAfter}
 use Rattle.block.specs.Kept.{Kept, keptOf}
@@ -19,11 +19,10 @@ use Rattle.channel_calls.specs.declared.calls.Answer.{Answer}
 use Rattle.channel_calls.specs.declared.calls.Answer.the-variants.{Done, Refused, Value, Fates}
 use Rattle.frame.specs.Layout.{count, need, block}
 use Rattle.power.specs.Power.{powerRefusal, powered}
-use Rattle.module.specs.Perform.{answer, after}
+use Rattle.module.specs.Perform.{answer}
 use Rattle.module.specs.declared.calls.Call.{Call}
 use Rattle.module.specs.declared.calls.Call.the-variants.{PowerUp, Reset, Wide, On}
 use Rattle.module_laws.specs.Reduced.{reduced}
-use Rattle.module_laws.proofs.Beyond.{same-length}
 use Rattle.fates.specs.Run.{lent, run, answerBehind, events}
 use Rattle.fates.specs.History.{History, start, isRefused, historyStep, history}
 use Rattle.fates.specs.Ledger.{Side, Receiving, Transmitting, fifoOf, overwrittenOf, Ledger, Departed, changeBehind, ledger, Fits, cleared, overwritten}
@@ -58,30 +57,16 @@ module _ (m : List ℕ) where
   agrees (x ∷ []) s = first (x .0) (x .1) s
   agrees (x ∷ y ∷ before) s = step (history (events m (y ∷ before))) (run m (y ∷ before)) (x .0) (x .1) (agrees (y ∷ before) s)
 
-  -- every call leaves the memory as long as it was
-  run-length : (calls : List (ℕ × Call)) → length (run m calls) ≡ length m
-  run-length [] = refl
-  run-length (x ∷ before) =
-      let r : List ℕ = run m before in
-      length-append (after (x .1) (take (x .0) r)) (drop (x .0) r)
-      ∙ ap (λ (n : ℕ). n + length (drop (x .0) r)) (same-length (x .1) (take (x .0) r))
-      ∙ sym (length-append (take (x .0) r) (drop (x .0) r)) ∙ ap length (take-append-drop (x .0) r) ∙ run-length before
-
-  lent-length : (calls : List (ℕ × Call)) (k : ℕ) → length (take k (run m calls)) ≡ length (take k m)
-  lent-length calls k = omega (arith, length-take k (run m calls), length-take k m, run-length calls)
-
   -- a call behind a list that has started
   behind : (calls : List (ℕ × Call)) → Started m calls → (k : ℕ) (c : Call)
-      → Answered (length (take k m)) c (answerBehind m calls k c) (history (events m calls))
-  behind calls s k c =
-      subst (λ (n : ℕ). Answered n c (answerBehind m calls k c) (history (events m calls))) (lent-length calls k)
-      (answered (agrees calls s) (oldest-shown (events m calls)) k c)
+      → Answered (length (take k (run m calls))) c (answerBehind m calls k c) (history (events m calls))
+  behind calls s k c = answered (agrees calls s) (oldest-shown (events m calls)) k c
 
   -- every call of a list
   abbrev AllAnswered : List (ℕ × Call) → Type 0
   AllAnswered [] = Unit
   AllAnswered (x ∷ before) =
-      Answered (length (take (x .0) m)) (x .1) (answerBehind m before (x .0) (x .1)) (history (events m before)) × AllAnswered before
+      Answered (length (take (x .0) (run m before))) (x .1) (answerBehind m before (x .0) (x .1)) (history (events m before)) × AllAnswered before
 
   first-answered : (k : ℕ) (c : Call) → PoweredUp c (answer c (take k m)) → Answered (length (take k m)) c (answer c (take k m)) start
   first-answered k (PowerUp n) s = power-answered n (length (take k m)) start
@@ -95,7 +80,7 @@ module _ (m : List ℕ) where
   all-answered (x ∷ y ∷ before) s = (behind (y ∷ before) s (x .0) (x .1), all-answered (y ∷ before) s)
 
   one-answered : (later before : List (ℕ × Call)) (k : ℕ) (c : Call) → AllAnswered (later ++ (k, c) ∷ before)
-      → Answered (length (take k m)) c (answerBehind m before k c) (history (events m before))
+      → Answered (length (take k (run m before))) c (answerBehind m before k c) (history (events m before))
   one-answered [] before k c h = h .0
   one-answered (x ∷ later) before k c h = one-answered later before k c (h .1)
 
@@ -107,9 +92,9 @@ module _ (m : List ℕ) where
       let h : History = history (events m calls) in
       let g : Agrees h (run m calls) = agrees calls s in
       let room : need (h .count) ≤ length (run m calls) = rw (g .count) at (g .sane .frame .room) in
-      let long : need (h .count) ≤ length (take n m) = omega (arith, length-take n m, run-length calls) in
+      let long : need (h .count) ≤ length (take n (run m calls)) = omega (arith, length-take n (run m calls)) in
       let t = behind calls s n (On ch k) in
-      rw (le-ltb (length (take n m)) (need (h .count)) long, le-ltb ch 1 low, le-ltb (h .count) ch high) at t .0
+      rw (le-ltb (length (take n (run m calls))) (need (h .count)) long, le-ltb ch 1 low, le-ltb (h .count) ch high) at t .0
 
 -- ---- the fates
 
@@ -120,7 +105,7 @@ AllFit (e ∷ before) = ((side : Side) (ch : ℕ) → Fits side (changeBehind si
 all-fit : (m : List ℕ) (calls : List (ℕ × Call)) → AllAnswered m calls → AllFit (events m calls)
 all-fit m [] h = tt
 all-fit m (x ∷ before) h = (
-  fits (events m before) (length (take (x .0) m)) (x .1) (answerBehind m before (x .0) (x .1)) (h .0),
+  fits (events m before) (length (take (x .0) (run m before))) (x .1) (answerBehind m before (x .0) (x .1)) (h .0),
   all-fit m before (h .1),
 )
 

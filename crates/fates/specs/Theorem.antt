@@ -62,38 +62,40 @@ countsOf r t =
 -- ---- the demand
 
 module _ (m : List ℕ) (calls : List (ℕ × Call)) where
-  abbrev pub told : List (Call × Answer)
-  told = events m calls
+  -- "the calls in order, each with its arguments and answer"
+  abbrev pub answeredCalls : List (Call × Answer)
+  answeredCalls = events m calls
 
   -- the fates of the entries of a FIFO of channel ch
   pub record OneFate (side : Side) (ch : ℕ) : Type 0 where
     -- "number the entries that each FIFO accepted since the last accepted power-up. Each has exactly one fate: taken out (read or sent),
-    -- cleared, overwritten or still held.": the ledger has these entries, in number order, each once
-    pub one-fate : numbered (ledger side ch told) ≡ acceptedBy side ch told
+    -- cleared, overwritten or still held.": the ledger has these entries, in number order, each once. "So accepted = taken out + cleared +
+    -- overwritten + held.": of every ledger, `conserved` in proofs/Consequences.antt
+    pub one-fate : numbered (ledger side ch answeredCalls) ≡ acceptedBy side ch answeredCalls
     -- "Each entry taken out is as it was accepted (on sending, its parity bit aside), in number order."
-    pub as-accepted : Every (λ d. AsAccepted side (d .accepted .entry) (d .fate)) (ledger side ch told .departed)
+    pub as-accepted : Every (λ d. AsAccepted side (d .accepted .entry) (d .fate)) (ledger side ch answeredCalls .departed)
     -- "The held ones are the newest, and exactly these are in the FIFO, oldest first.": the ledger's last
-    pub held : fifoOf side (keptOf (block (run m calls) ch)) .held ≡ entries (ledger side ch told .held)
+    pub held : fifoOf side (keptOf (block (run m calls) ch)) .held ≡ entries (ledger side ch answeredCalls .held)
     -- "The description's history gives it from the calls and their answers alone"
-    pub from-answers : Accounts (ledger side ch told) (fifoOf side (history told .kept ch)) (overwrittenOf side (history told .kept ch))
+    pub from-answers : Accounts (ledger side ch answeredCalls) (fifoOf side (history answeredCalls .kept ch)) (overwrittenOf side (history answeredCalls .kept ch))
 
   -- what a call that reads channel ch after the list answers, lent n words: the counts, and how many are still held
   pub record Read (ch n : ℕ) : Type 0 where
-    pub counts : answerBehind m calls n (On ch (Reads ReadCounts)) ≡ countsOf (ledger Receiving ch told) (ledger Transmitting ch told)
-    pub receive-level : answerBehind m calls n (On ch (Reads ReadReceiveLevel)) ≡ Value (length (ledger Receiving ch told .held))
-    pub transmit-level : answerBehind m calls n (On ch (Reads ReadTransmitLevel)) ≡ Value (length (ledger Transmitting ch told .held))
+    pub counts : answerBehind m calls n (On ch (Reads ReadCounts)) ≡ countsOf (ledger Receiving ch answeredCalls) (ledger Transmitting ch answeredCalls)
+    pub receive-level : answerBehind m calls n (On ch (Reads ReadReceiveLevel)) ≡ Value (length (ledger Receiving ch answeredCalls .held))
+    pub transmit-level : answerBehind m calls n (On ch (Reads ReadTransmitLevel)) ≡ Value (length (ledger Transmitting ch answeredCalls .held))
 
   pub record Demand : Type 0 where
+    -- "Each has exactly one fate"
+    pub fates : (side : Side) (ch : ℕ) → 1 ≤ ch → ch ≤ history answeredCalls .count → OneFate side ch
     -- "each answer is the one the description gives": of every call of the list, by the history before it
     pub answers : (later before : List (ℕ × Call)) (k : ℕ) (c : Call) → calls ≡ later ++ (k, c) ∷ before
-        → Answered (length (take k m)) c (answerBehind m before k c) (history (events m before))
+        → Answered (length (take k (run m before))) c (answerBehind m before k c) (history (events m before))
     -- "The oldest is never asked for with none held."; "and is the answer's entry"; "and is that word, D31 aside"
-    pub oldest : (later before : List (Call × Answer)) (e : Call × Answer) → told ≡ later ++ e ∷ before → (side : Side) (ch : ℕ)
+    pub oldest : (later before : List (Call × Answer)) (e : Call × Answer) → answeredCalls ≡ later ++ e ∷ before → (side : Side) (ch : ℕ)
         → Fits side (changeBehind side ch before e) (fifoOf side (history before .kept ch))
-    -- "Each has exactly one fate"
-    pub fates : (side : Side) (ch : ℕ) → 1 ≤ ch → ch ≤ history told .count → OneFate side ch
     -- "Accepted and fate counts equal the history's, modulo 4,294,967,296, also across module resets."
-    pub reads : (ch : ℕ) → 1 ≤ ch → ch ≤ history told .count → (n : ℕ) → need (history told .count) ≤ n → Read ch n
+    pub reads : (ch : ℕ) → 1 ≤ ch → ch ≤ history answeredCalls .count → (n : ℕ) → need (history answeredCalls .count) ≤ n → Read ch n
 
 -- "every list of calls on one module's memory", of which the first is an accepted power-up
 abbrev pub Demand3 : Type 0

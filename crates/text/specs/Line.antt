@@ -27,7 +27,7 @@ behindValue = 4
 abbrev pub wrongPlace : ℕ
 wrongPlace = 5
 
--- place, whether `0x` or `-` was read, digits of the field, the word, the size of the value
+-- place, whether `0x` or `-` was read, the digits of the word or whether the value has one, the word, the size of the value
 abbrev pub lineOf : ℕ → Bool → ℕ → ℕ → ℕ → Line
 lineOf place mark digits word size = record { place = place; mark = mark; digits = digits; word = word; size = size }
 

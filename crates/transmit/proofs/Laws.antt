@@ -2,7 +2,7 @@
 -- Assumes nothing.
 use mathlib.Core.Path.{_≡_, refl, sym, ap, _∙_}
 use mathlib.Core.Logic.{_≢_}
-use mathlib.Core.Bool.{Bool, true, false, cond}
+use mathlib.Core.Bool.{Bool, true, false, cond, true≢false}
 use mathlib.Core.List.{List, [], _∷_}
 use Prim.Native.Nat.{ℕ, _+_, _-_, _%_, _^_, _≤_, _<_, zero-le}
 use native.Mathlib.Nat.{mod-lt}
@@ -237,3 +237,30 @@ scheduled-gives-none b e =
     rw (eqb-true (word b transmitMode) scheduled e)
     (cases (λ (o : Output). isFifoWord o ≡ false) (eqb (word b transmitter) 0) refl
     (no-fifo-word (place b) (word b parity) (command b) (message b)))
+
+-- outside scheduled mode a step gives a word of the FIFO or is quiet
+abbrev QuietElse : Output → Type 0
+QuietElse o = isFifoWord o ≡ false → o ≡ Quiet
+
+send-quiet : (b : List ℕ) → QuietElse (sendOutput b)
+unfolding sendOutput
+send-quiet b = cases QuietElse (eqb (word b transmitLevel) 0) (λ e. refl) (λ e. absurd (true≢false e))
+
+pub unscheduled-quiet : {b : List ℕ} → Usable b → eqb (word b transmitMode) scheduled ≡ false → QuietElse (stepOutput b)
+unfolding stepOutput immediateOutput triggeredOutput leasts greatests
+unscheduled-quiet {b} u n =
+    cases QuietElse (eqb (word b transmitter) 0) (λ e. refl) (go (eqb (word b transmitMode) immediate) (eqb (word b transmitMode) triggered) refl refl)
+  where
+    go : (p q : Bool) → eqb (word b transmitMode) immediate ≡ p → eqb (word b transmitMode) triggered ≡ q
+        → QuietElse (cond p (immediateOutput b) (cond q (triggeredOutput b) (scheduledOutcome b .output)))
+    go true q x y = cases QuietElse (eqb (word b state) paused) (λ e. refl) (send-quiet b)
+    go false true x y = cases QuietElse (eqb (word b state) running) (send-quiet b) (λ e. refl)
+    go false false x y =
+        absurd
+        (omega
+        (arith, at-most u transmitMode (omega arith), eqb-false (word b transmitMode) immediate x, eqb-false (word b transmitMode) triggered y, eqb-false (word b transmitMode) scheduled n))
+
+-- with the transmitter off every step is quiet
+pub off-quiet : (b : List ℕ) → eqb (word b transmitter) 0 ≡ true → stepOutput b ≡ Quiet
+unfolding stepOutput
+off-quiet b e = rw e refl
