@@ -107,7 +107,7 @@ uint32_t nqabelihu_index_of_label(uint32_t label, uint32_t sdi); /* that of the 
 enum {
     NQABELIHU_MOST_CHANNELS = 12,
     NQABELIHU_MODULE_WORDS = 16,    /* the module part */
-    NQABELIHU_CHANNEL_WORDS = 4666, /* each channel */
+    NQABELIHU_CHANNEL_WORDS = 4667, /* each channel */
     NQABELIHU_FIFO_ENTRIES = 255,   /* the most that a FIFO holds */
     NQABELIHU_MAILBOXES = 1024,     /* mailboxes, and places of the match set: one for each SDI/Label index */
     NQABELIHU_SCHEDULE_WORDS = 256, /* commands of the schedule RAM: addresses from 0 to one less */
@@ -197,7 +197,8 @@ typedef enum { NQABELIHU_OUTCOME_TABLE(NQABELIHU_ROW_NAME) } nqabelihu_outcome;
     ROW(NQABELIHU_FORM_MESSAGE, 2, "a word of the schedule, no gap")             /* word, 0, 0 */                          \
     ROW(NQABELIHU_FORM_NULL_TIME, 3, "a gap")                                    /* bit times, 0, 0 */                     \
     ROW(NQABELIHU_FORM_ASYNC, 4, "a gap with the async word in it")              /* 4 bit times, word, bit times behind */ \
-    ROW(NQABELIHU_FORM_RESERVED, 5, "a reserved command: the schedule is idle")  /* the command's address, 0, 0 */
+    ROW(NQABELIHU_FORM_RESERVED, 5, "a reserved command: the schedule is idle")  /* the command's address, 0, 0 */         \
+    ROW(NQABELIHU_FORM_NULL_MESSAGE, 6, "4 null and a word of the schedule")     /* 4 bit times, word, 0 */
 
 typedef enum { NQABELIHU_FORM_TABLE(NQABELIHU_ROW_NAME) } nqabelihu_form;
 
@@ -745,6 +746,7 @@ static inline int nqabelihu_output_word(nqabelihu_output output, uint32_t *word)
         *word = output.x;
         return 1;
     case NQABELIHU_FORM_ASYNC:
+    case NQABELIHU_FORM_NULL_MESSAGE:
         *word = output.y;
         return 1;
     default:
@@ -765,6 +767,8 @@ static inline uint32_t nqabelihu_output_bit_times(nqabelihu_output output)
         return output.x;
     case NQABELIHU_FORM_ASYNC:
         return output.x + NQABELIHU_WORD_BIT_TIMES + output.z;
+    case NQABELIHU_FORM_NULL_MESSAGE:
+        return output.x + NQABELIHU_WORD_BIT_TIMES;
     default:
         return 0;
     }

@@ -570,6 +570,16 @@ static void transmitting(nqabelihu_memory m)
     STEP(NQABELIHU_FORM_QUIET, 0, 0, 0);
     STEP(NQABELIHU_FORM_QUIET, 0, 0, 0);
     STEP(NQABELIHU_FORM_RESERVED, 7, 0, 0);
+
+    /* two messages in a row, and a stop and a trigger between two */
+    DO(nqabelihu_write_schedule(m, 2, 0, NQABELIHU_COMMAND_MESSAGE + 1));
+    DO(nqabelihu_write_schedule(m, 2, 1, NQABELIHU_COMMAND_MESSAGE + 1));
+    DO(nqabelihu_trigger(m, 2));
+    STEP(NQABELIHU_FORM_MESSAGE, 0x100, 0, 0);
+    STEP(NQABELIHU_FORM_NULL_MESSAGE, 4, 0x100, 0);
+    DO(nqabelihu_stop(m, 2));
+    DO(nqabelihu_trigger(m, 2));
+    STEP(NQABELIHU_FORM_NULL_MESSAGE, 4, 0x100, 0);
 }
 
 /* Every count has a number of its own. */

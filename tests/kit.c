@@ -77,7 +77,8 @@ static const row forms[] = {{0, "quiet"},
                             {2, "a word of the schedule, no gap"},
                             {3, "a gap"},
                             {4, "a gap with the async word in it"},
-                            {5, "a reserved command: the schedule is idle"}};
+                            {5, "a reserved command: the schedule is idle"},
+                            {6, "4 null and a word of the schedule"}};
 static const row conditions[] = {{1, "receive FIFO almost full"}, {2, "receive FIFO full"},   {4, "transmit FIFO almost empty"},
                                  {8, "transmit FIFO empty"},      {16, "parity error"},       {32, "schedule interrupt"},
                                  {64, "fault"}};
@@ -174,6 +175,7 @@ static void outputs(void)
     is_sent(NQABELIHU_FORM_NULL_TIME, 77, 0, 0, 0, 0, 77);
     is_sent(NQABELIHU_FORM_ASYNC, 4, 77, 64, 1, 77, 100);
     is_sent(NQABELIHU_FORM_RESERVED, 200, 0, 0, 0, 0, 0);
+    is_sent(NQABELIHU_FORM_NULL_MESSAGE, 4, 77, 0, 1, 77, 36);
 }
 
 /* ---- the drain and the tally ---- */

@@ -6,6 +6,7 @@ use crate::calls::{kind, Call, Item, NO_CALL};
 use crate::engine::Engine;
 use crate::ledger::Ledger;
 use crate::lists::{lists, Event, List};
+use crate::spacing::Spacing;
 use crate::writes::stray_write;
 
 /// Calls in a list, about.
@@ -17,7 +18,7 @@ pub struct Tally {
     pub calls: u64,
     pub accepted: u64,
     pub lists: u64,
-    /// Calls entered into a history of fates.
+    /// Calls entered into a history.
     pub in_history: u64,
     /// Calls and accepted calls, by op.
     pub kinds: BTreeMap<u32, (u64, u64)>,
@@ -55,7 +56,7 @@ impl Tally {
         println!("answers by number: {:?}", self.numbers);
         println!("arrivals by outcome: {:?}", self.outcomes);
         println!("steps by form: {:?}", self.forms);
-        println!("lists: {}, calls in a history of fates: {}", self.lists, self.in_history);
+        println!("lists: {}, calls in a history: {}", self.lists, self.in_history);
     }
 }
 
@@ -75,7 +76,7 @@ pub fn run(list: &List, first: &mut dyn Engine, second: &mut dyn Engine, tally: 
     let mut mem = list.memory.clone();
     let mut before = list.memory.clone();
     let mut lent = mem.len();
-    let mut ledger = None;
+    let mut history: Option<History> = None;
     let mut said: Vec<Vec<u32>> = vec![];
     first.resume(&mem);
     second.resume(&mem);
@@ -98,7 +99,7 @@ pub fn run(list: &List, first: &mut dyn Engine, second: &mut dyn Engine, tally: 
                 tally.enter(item, &other);
                 said[place] = other.clone();
                 if place == 0 && op == 1 && other == [0] && !list.is_damaged() {
-                    ledger = Some(Ledger::default());
+                    history = Some(History::default());
                 }
                 let fault = if answer != other {
                     Some(format!("answers: first {answer:?}, second {other:?}"))
@@ -106,9 +107,9 @@ pub fn run(list: &List, first: &mut dyn Engine, second: &mut dyn Engine, tally: 
                     Some(format!("second: {stray}"))
                 } else if let Some(difference) = first.difference(&own, &mem) {
                     Some(difference)
-                } else if let Some(ledger) = &mut ledger {
+                } else if let Some(history) = &mut history {
                     tally.in_history += 1;
-                    history(ledger, item, &other, &*first, &mem).err().map(|what| format!("history: {what}"))
+                    history.enter(item, &other, &*first, &mem).err().map(|what| format!("history: {what}"))
                 } else {
                     None
                 };
@@ -121,18 +122,28 @@ pub fn run(list: &List, first: &mut dyn Engine, second: &mut dyn Engine, tally: 
             }
         }
     }
-    match ledger.map(|ledger| ledger.check_fates()) {
+    match history.map(|history| history.ledger.check_fates()) {
         Some(Err(what)) => Err(Difference { seed: list.seed, event: list.events.len(), what, last: last(list, &said) }),
         _ => Ok(()),
     }
 }
 
-fn history(ledger: &mut Ledger, item: Item, answer: &[u32], first: &dyn Engine, mem: &[u32]) -> Result<(), String> {
-    ledger.enter(item, answer)?;
-    if let Some(model) = first.model() {
-        ledger.check_model(model)?;
+/// What the calls and answers since power-up tell: the fates, and the null time between words.
+#[derive(Default)]
+struct History {
+    ledger: Ledger,
+    spacing: Spacing,
+}
+
+impl History {
+    fn enter(&mut self, item: Item, answer: &[u32], first: &dyn Engine, mem: &[u32]) -> Result<(), String> {
+        self.spacing.enter(item, answer)?;
+        self.ledger.enter(item, answer)?;
+        if let Some(model) = first.model() {
+            self.ledger.check_model(model)?;
+        }
+        self.ledger.check_words(mem)
     }
-    ledger.check_words(mem)
 }
 
 /// The last events in words, with the second engine's answers.

@@ -15,7 +15,7 @@ pub const MESSAGES: usize = 256;
 /// Words of the schedule RAM.
 pub const COMMANDS: usize = 256;
 /// Words of a block with a range, from its first.
-pub const RANGED: usize = LEVEL_MASK + 1;
+pub const RANGED: usize = WORD_MARK + 1;
 
 // The module part.
 pub const COUNT: usize = 0;
@@ -47,7 +47,9 @@ pub const ASYNC_MARK: usize = COMMAND + 1;
 pub const LATCH: usize = ASYNC_MARK + 1;
 pub const ENABLE: usize = LATCH + 1;
 pub const LEVEL_MASK: usize = ENABLE + 1;
-pub const ASYNC_WORD: usize = LEVEL_MASK + 1;
+/// 1 where the last thing that the schedule sent was a message word.
+pub const WORD_MARK: usize = LEVEL_MASK + 1;
+pub const ASYNC_WORD: usize = WORD_MARK + 1;
 pub const RECEIVE_ACCEPTED: usize = ASYNC_WORD + 1;
 pub const RECEIVE_READ: usize = RECEIVE_ACCEPTED + 1;
 pub const RECEIVE_CLEARED: usize = RECEIVE_READ + 1;
@@ -96,4 +98,5 @@ pub const RANGES: [(u32, u32); RANGED] = [
     (0, 127),       // latch mask
     (0, 127),       // enable mask
     (0, 127),       // level mask
+    (0, 1),         // word mark
 ];

@@ -19,5 +19,6 @@ pub mod proved;
 pub mod proved_readings;
 pub mod reading;
 pub mod readings;
+pub mod spacing;
 pub mod words;
 pub mod writes;

@@ -6,6 +6,8 @@
 //! Between single calls stand runs: calls in an order that leads to a rule which single calls meet seldom.
 //! `tests/reached.rs` counts how often each such rule is met.
 
+mod no_gap;
+
 use crate::calls::Item;
 use crate::layout::*;
 use crate::ops::*;
@@ -185,7 +187,17 @@ pub fn list(seed: u64, calls: usize) -> List {
     };
     let words = match kind {
         Memory::Short => short_length(&mut dice),
-        Memory::Lent => need(count) + dice.one_of(&[0, 1, MODULE_WORDS as u32, BLOCK_WORDS as u32 - 1, BLOCK_WORDS as u32, 2 * BLOCK_WORDS as u32]) as usize,
+        Memory::Lent => {
+            need(count)
+                + dice.one_of(&[
+                    0,
+                    1,
+                    MODULE_WORDS as u32,
+                    BLOCK_WORDS as u32 - 1,
+                    BLOCK_WORDS as u32,
+                    2 * BLOCK_WORDS as u32,
+                ]) as usize
+        }
         _ => need(count) + dice.one_of(&[0, 0, 1, 30]) as usize,
     };
     // Words of any content, or zeros, before power-up.
@@ -219,7 +231,7 @@ pub fn list(seed: u64, calls: usize) -> List {
 fn short_length(dice: &mut Dice) -> usize {
     match dice.below(4) {
         0 => dice.one_of(&[0, 1, 2, 15, 16, 17]) as usize,
-        1 => dice.below(14_014) as usize,
+        1 => dice.below(need(3) as u32) as usize,
         _ => {
             let count = 1 + dice.below(3);
             need(count) + 1 - dice.below(3) as usize
@@ -473,9 +485,10 @@ impl Writer {
             (0, _) => self.stamps(channel),
             (1, 2..=4) => self.full_transmit_fifo(channel),
             (1, _) => self.states(channel),
-            (2, 2..=39) => self.gaps(channel),
-            (2, 40..=87) => self.last_command(channel),
-            (2, _) => self.interrupts(channel),
+            (2, 2..=31) => self.gaps(channel),
+            (2, 32..=69) => self.last_command(channel),
+            (2, 70..=79) => self.interrupts(channel),
+            (2, _) => self.words_in_a_row(channel),
             (_, 2..=36) => self.latches(channel),
             _ => self.samples(channel),
         }
@@ -1084,7 +1097,8 @@ impl Writer {
                 }
                 self.overwrite(first + SIZE, 255);
             }
-            11..=18 => self.outside_its_range(channel),
+            11 => self.mark_set_by_others(channel),
+            12..=18 => self.outside_its_range(channel),
             _ => {
                 let (word, value) = (self.dice.below(self.memory.len() as u32), self.dice.word());
                 self.overwrite(word as usize, value);
@@ -1105,7 +1119,8 @@ impl Writer {
             (block(channel) + word, RANGES[word])
         } else {
             // Twelve of the sixteen words are counters.
-            let word = if self.dice.chance(70) { self.dice.below(4) } else { self.dice.below(MODULE_WORDS as u32) } as usize;
+            let word =
+                if self.dice.chance(70) { self.dice.below(4) } else { self.dice.below(MODULE_WORDS as u32) } as usize;
             (word, PART_RANGES[word])
         };
         let value = match self.dice.below(10) {

@@ -60,7 +60,7 @@ const MODE: Refusal = 5;
 const FULL: Refusal = 6;
 const EMPTY: Refusal = 7;
 
-fn on_or_off(value: u32) -> Option<bool> {
+pub fn on_or_off(value: u32) -> Option<bool> {
     match value {
         0 => Some(false),
         1 => Some(true),
@@ -201,6 +201,8 @@ pub struct Channel {
     /// Command address.
     pub command: u32,
     pub waiting: Option<u32>,
+    /// The last thing that the schedule sent was a message word.
+    pub after_word: bool,
     pub latches: Marks,
     pub enables: Marks,
     /// True for level, false for edge.
@@ -220,6 +222,7 @@ enum Output {
     Null { time: u32 },
     NullAsyncNull { word: u32, rest: u32 },
     Reserved { address: u32 },
+    NullMessage { word: u32 },
 }
 
 impl Output {
@@ -231,6 +234,7 @@ impl Output {
             Output::Null { time } => vec![3, time, 0, 0],
             Output::NullAsyncNull { word, rest } => vec![4, 4, word, rest],
             Output::Reserved { address } => vec![5, address, 0, 0],
+            Output::NullMessage { word } => vec![6, 4, word, 0],
         }
     }
 }
@@ -276,6 +280,7 @@ impl Channel {
             state: Transmitter::Idle,
             command: 0,
             waiting: None,
+            after_word: false,
             latches: [false; 7],
             enables: [false; 7],
             levels: [false; 7],
@@ -307,6 +312,7 @@ impl Channel {
         self.clear_receive();
         self.clear_transmit();
         self.waiting = None;
+        self.after_word = false;
         self.idle_at_command_0();
         self.settings = Settings::factory();
         self.latches = [false; 7];
@@ -355,6 +361,7 @@ impl Channel {
         if held.transmit_mode != self.settings.transmit_mode || turned_off {
             self.idle_at_command_0();
             self.waiting = None;
+            self.after_word = false;
         }
         Ok(())
     }
@@ -450,10 +457,17 @@ impl Channel {
             }
             1 => {
                 self.next_command();
-                Output::Message { word: self.as_sent(stored) }
+                let word = self.as_sent(stored);
+                // Behind another message word: 4 null first.
+                if std::mem::replace(&mut self.after_word, true) {
+                    Output::NullMessage { word }
+                } else {
+                    Output::Message { word }
+                }
             }
             2 => {
                 self.next_command();
+                self.after_word = false;
                 let time = gap(stored);
                 match self.waiting {
                     Some(word) if time >= 40 => {
@@ -465,6 +479,7 @@ impl Channel {
             }
             3 => {
                 self.next_command();
+                self.after_word = false;
                 Output::Null { time: gap(stored) }
             }
             4 => {
@@ -589,6 +604,7 @@ impl Channel {
                 self.clear_receive();
                 self.clear_transmit();
                 self.idle_at_command_0();
+                self.after_word = false;
                 if failed {
                     self.latches[6] = true;
                 }

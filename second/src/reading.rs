@@ -1,7 +1,7 @@
 //! The model read from lent words (docs/MEMORY.md), and compared with them.
 
 use crate::layout::*;
-use crate::model::{marks_of, Channel, Counts, Entry, Model, Part, Settings, Transmitter};
+use crate::model::{marks_of, on_or_off, Channel, Counts, Entry, Model, Part, Settings, Transmitter};
 
 fn entry(words: &[u32]) -> Entry {
     Entry { status: words[0], word: words[1], stamp: words[2] }
@@ -39,6 +39,7 @@ fn channel(block: &[u32]) -> Option<Channel> {
         state,
         command: block[COMMAND],
         waiting,
+        after_word: on_or_off(block[WORD_MARK])?,
         latches: marks_of(block[LATCH])?,
         enables: marks_of(block[ENABLE])?,
         levels: marks_of(block[LEVEL_MASK])?,
@@ -128,7 +129,7 @@ fn channel_difference(mine: &Channel, theirs: &Channel) -> String {
             })*
         };
     }
-    tell!(settings, receive, transmit, state, command, waiting, latches, enables, levels, counts);
+    tell!(settings, receive, transmit, state, command, waiting, after_word, latches, enables, levels, counts);
     for index in 0..1024 {
         if mine.mailboxes[index] != theirs.mailboxes[index] {
             return format!("mailbox {index}: model {:?}, words {:?}", mine.mailboxes[index], theirs.mailboxes[index]);

@@ -182,7 +182,7 @@ fn module_reset(mem: &mut [u32]) {
         clear(ch, RECEIVE_LEVEL, RECEIVE_CLEARED);
         clear(ch, TRANSMIT_LEVEL, TRANSMIT_CLEARED);
         ch[..12].copy_from_slice(&FACTORY);
-        for word in [STATE, COMMAND, ASYNC_MARK, LATCH, ENABLE, LEVEL_MASK] {
+        for word in [STATE, COMMAND, ASYNC_MARK, LATCH, ENABLE, LEVEL_MASK, WORD_MARK] {
             ch[word] = 0;
         }
     }
@@ -310,6 +310,7 @@ fn on_block(ch: &mut [u32], stamp: u32, op: u32, a: u32, b: u32, answer: &mut Ve
             clear(ch, RECEIVE_LEVEL, RECEIVE_CLEARED);
             clear(ch, TRANSMIT_LEVEL, TRANSMIT_CLEARED);
             idle(ch);
+            ch[WORD_MARK] = 0;
             if a == 1 {
                 ch[LATCH] |= FAULT;
             }
@@ -349,17 +350,18 @@ fn write_setting(ch: &mut [u32], setting: usize, value: u32) {
     ch[setting] = value;
     match setting {
         RECEIVE_MODE if change => clear(ch, RECEIVE_LEVEL, RECEIVE_CLEARED),
-        TRANSMIT_MODE if change => {
-            idle(ch);
-            ch[ASYNC_MARK] = 0;
-        }
+        TRANSMIT_MODE if change => start_anew(ch),
         // Also when it is off.
-        TRANSMITTER if value == 0 => {
-            idle(ch);
-            ch[ASYNC_MARK] = 0;
-        }
+        TRANSMITTER if value == 0 => start_anew(ch),
         _ => {}
     }
+}
+
+/// Idle at command 0, no async word waits, and the word sent before is forgotten.
+fn start_anew(ch: &mut [u32]) {
+    idle(ch);
+    ch[ASYNC_MARK] = 0;
+    ch[WORD_MARK] = 0;
 }
 
 // Receive.
@@ -492,6 +494,8 @@ fn command(ch: &mut [u32], answer: &mut Vec<u32>) -> u32 {
     let mut signals = 0;
     let reserved = code > 6 || (code == 6 && target > 255);
     let output = match code {
+        // Behind a word: 4 null first.
+        1 if ch[WORD_MARK] == 1 => [6, 4, as_sent(ch, stored), 0],
         1 => [2, as_sent(ch, stored), 0, 0],
         2 if ch[ASYNC_MARK] == 1 && gap(stored) >= 40 => {
             ch[ASYNC_MARK] = 0;
@@ -505,6 +509,12 @@ fn command(ch: &mut [u32], answer: &mut Vec<u32>) -> u32 {
         _ if reserved => [5, address, 0, 0],
         _ => [0; 4],
     };
+    // What was sent last; a command that sends nothing leaves it.
+    match code {
+        1 => ch[WORD_MARK] = 1,
+        2 | 3 => ch[WORD_MARK] = 0,
+        _ => {}
+    }
     // Where it stands afterwards.
     if code == 0 || reserved {
         idle(ch);

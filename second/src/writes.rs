@@ -54,13 +54,13 @@ fn may_write(before: &[u32], word: usize, item: Item) -> bool {
         2 => {
             offset <= RECEIVE_LEVEL
                 || [RECEIVE_CLEARED, TRANSMIT_LEVEL, TRANSMIT_CLEARED].contains(&offset)
-                || (STATE..=LEVEL_MASK).contains(&offset)
+                || (STATE..=WORD_MARK).contains(&offset)
         }
         _ if offset == LATCH => ![5, 7, 9].contains(&op),
         32..=43 => {
             offset == op as usize - 32
                 || (op == 37 && [RECEIVE_LEVEL, RECEIVE_CLEARED].contains(&offset))
-                || ([33, 39].contains(&op) && [STATE, COMMAND, ASYNC_MARK].contains(&offset))
+                || ([33, 39].contains(&op) && [STATE, COMMAND, ASYNC_MARK, WORD_MARK].contains(&offset))
         }
         128 => {
             let block = &before[block(channel)..];
@@ -82,13 +82,16 @@ fn may_write(before: &[u32], word: usize, item: Item) -> bool {
         135 | 136 => offset == STATE,
         137 => [STATE, COMMAND].contains(&offset),
         138 => match before[block(channel) + TRANSMIT_MODE] {
-            2 => [STATE, COMMAND, ASYNC_MARK].contains(&offset),
+            2 => [STATE, COMMAND, ASYNC_MARK, WORD_MARK].contains(&offset),
             1 => [TRANSMIT_LEVEL, TRANSMIT_POSITION, TRANSMIT_SENT, STATE].contains(&offset),
             _ => [TRANSMIT_LEVEL, TRANSMIT_POSITION, TRANSMIT_SENT].contains(&offset),
         },
         139 => offset == SCHEDULE_RAM + a as usize,
         141 => offset == MESSAGE_RAM + a as usize,
-        145 => [RECEIVE_LEVEL, RECEIVE_CLEARED, TRANSMIT_LEVEL, TRANSMIT_CLEARED, STATE, COMMAND].contains(&offset),
+        145 => {
+            let cleared = [RECEIVE_LEVEL, RECEIVE_CLEARED, TRANSMIT_LEVEL, TRANSMIT_CLEARED];
+            cleared.contains(&offset) || [STATE, COMMAND, WORD_MARK].contains(&offset)
+        }
         148 => offset == ENABLE,
         150 => offset == LEVEL_MASK,
         _ => false,

@@ -16,7 +16,7 @@ fn model_and_words_agree() {
     // Every refusal, outcome and form comes up.
     assert_eq!(tally.numbers.keys().copied().collect::<Vec<_>>(), [0, 1, 2, 3, 4, 5, 6, 7, 42]);
     assert_eq!(tally.outcomes.len(), 5);
-    assert_eq!(tally.forms.len(), 6);
+    assert_eq!(tally.forms.len(), 7);
 }
 
 #[test]
@@ -95,6 +95,52 @@ fn a_dropped_async_word_on_stop_is_found() {
     found(|mem, _, op, channel, _, answer| {
         if op == 137 && answer[0] == 0 {
             mem[block(channel) + ASYNC_MARK] = 0;
+        }
+    });
+}
+
+#[test]
+fn a_word_mark_forgotten_or_kept_where_it_must_not_be_is_found() {
+    found(|mem, _, op, channel, _, answer| {
+        if op == 137 && answer[0] == 0 {
+            mem[block(channel) + WORD_MARK] = 0;
+        }
+    });
+    // The mode held is no change.
+    found(|mem, _, op, channel, _, answer| {
+        if op == 39 && answer[0] == 0 {
+            mem[block(channel) + WORD_MARK] = 0;
+        }
+    });
+    // Kept by a test, by transmitter off, by a reset.
+    found(|mem, before, op, channel, _, answer| {
+        if op == 145 && answer[0] == 0 {
+            mem[block(channel) + WORD_MARK] = before[block(channel) + WORD_MARK];
+        }
+    });
+    found(|mem, before, op, channel, _, answer| {
+        if op == 33 && answer[0] == 0 {
+            mem[block(channel) + WORD_MARK] = before[block(channel) + WORD_MARK];
+        }
+    });
+    found(|mem, before, op, _, _, answer| {
+        if op == 2 && answer[0] == 0 {
+            mem[block(1) + WORD_MARK] = before[block(1) + WORD_MARK];
+        }
+    });
+    // An async word in a gap counts as the last word.
+    found(|mem, _, op, channel, _, answer| {
+        if op == 138 && answer[..2] == [0, 4] {
+            mem[block(channel) + WORD_MARK] = 1;
+        }
+    });
+}
+
+#[test]
+fn two_words_with_no_gap_are_found() {
+    found(|_, _, op, _, _, answer| {
+        if op == 138 && answer[..2] == [0, 6] {
+            *answer = vec![0, 2, answer[3], 0, 0];
         }
     });
 }

@@ -383,7 +383,7 @@ fn module_reset_keeps_what_the_description_keeps() {
     bench.done(LEVEL_WRITE, 127, 0);
     bench.done(MODULE_RESET, 0, 0);
     assert_eq!(bench.mem[..16], [1, 0, 0, 5, 0, 0, 0, 0, 0, 0, 0, 0, 0, 0, 0, 0]);
-    assert_eq!(bench.mem[16..16 + 23], [0, 0, 1, 0, 0, 0, 0, 0, 255, 128, 32, 4, 0, 0, 0, 0, 0, 0, 0, 0, 0, 0, 7]);
+    assert_eq!(bench.mem[16..16 + 24], [0, 0, 1, 0, 0, 0, 0, 0, 255, 128, 32, 4, 0, 0, 0, 0, 0, 0, 0, 0, 0, 0, 0, 7]);
     assert_eq!(bench.counts(), [1, 0, 1, 0, 1, 0, 1]);
     assert_eq!(bench.done(MATCH_READ, 1023, 0), [1]);
     assert_eq!(bench.done(MESSAGE_READ, 3, 0), [33]);
@@ -393,5 +393,5 @@ fn module_reset_keeps_what_the_description_keeps() {
     bench.done(POWER_UP, 1, 0);
     assert_eq!(bench.counts(), [0; 7]);
     assert_eq!(bench.done(MATCH_READ, 1023, 0), [0]);
-    assert_eq!(bench.mem[39..].iter().filter(|&&word| word != 0).count(), 0);
+    assert_eq!(bench.mem[40..].iter().filter(|&&word| word != 0).count(), 0);
 }

@@ -89,6 +89,8 @@ fn row_2_unsound_channel() {
         (LATCH, 128),
         (ENABLE, 128),
         (LEVEL_MASK, 128),
+        (WORD_MARK, 2),
+        (WORD_MARK, u32::MAX),
     ];
     for (word, value) in outside {
         let mut bench = Bench::new(2);

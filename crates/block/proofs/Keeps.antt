@@ -10,9 +10,9 @@ use borrow.Author.Tests.{eqb-true, eqb-false, ltb-false}
 use lib.Dec.{eqb, ltb}
 use lib.ListN.{length, getD, set, drop, List·getD-append}
 use lib.Seq.{getD-append-add, getD-drop, sets-eq, length-sets}
-use Rattle.block.specs.Layout.{word, receiver, transmitter, receiveMode, transmitMode, receiveSize, receiveLevel, transmitLevel, receiveCleared, transmitCleared, state, address, asyncMark, settings, ranged}
+use Rattle.block.specs.Layout.{word, receiver, transmitter, receiveMode, transmitMode, receiveSize, receiveLevel, transmitLevel, receiveCleared, transmitCleared, state, address, asyncMark, messageMark, settings, ranged}
 use Rattle.block.specs.Ranges.{leasts, greatests, inRange, Usable}
-use Rattle.block.specs.Clearing.{receiveFifoCleared, transmitFifoCleared, stopped, forgotten}
+use Rattle.block.specs.Clearing.{receiveFifoCleared, transmitFifoCleared, stopped, unmarked, forgotten}
 use Rattle.block.specs.Settings.{settingRefusal, receiveModeWritten, transmitModeWritten, transmitterWritten, written}
 use Rattle.block.specs.Factory.{factorySettings, settingsToFactory}
 use Rattle.word.proofs.Computed.{passes}
@@ -40,10 +40,14 @@ module _ {b : List ℕ} (u : Usable b) where
   unfolding leasts greatests
   stop-keeps = usable-store (usable-store u state 0 (omega arith) refl) address 0 (omega arith) refl
 
+  pub unmark-keeps : Usable (unmarked b)
+  unfolding leasts greatests
+  unmark-keeps = usable-store u messageMark 0 (omega arith) refl
+
 module _ {b : List ℕ} (u : Usable b) where
   pub forget-keeps : Usable (forgotten b)
   unfolding leasts greatests
-  forget-keeps = usable-store (stop-keeps u) asyncMark 0 (omega arith) refl
+  forget-keeps = usable-store (unmark-keeps (stop-keeps u)) asyncMark 0 (omega arith) refl
 
 -- ---- settings
 

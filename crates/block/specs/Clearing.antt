@@ -4,7 +4,7 @@ use mathlib.Core.List.{List}
 use lib.ListN.{set}
 use Rattle.schedule.specs.Codes.{idle}
 use Rattle.block.specs.Counts.{counted}
-use Rattle.block.specs.Layout.{word, receiveLevel, receiveCleared, transmitLevel, transmitCleared, state, address, asyncMark}
+use Rattle.block.specs.Layout.{word, receiveLevel, receiveCleared, transmitLevel, transmitCleared, state, address, asyncMark, messageMark}
 
 -- "Clearing adds the level it found": a FIFO with its level and its cleared count at these words
 abbrev pub cleared : ℕ → ℕ → List ℕ → List ℕ
@@ -20,6 +20,10 @@ transmitFifoCleared b = cleared transmitLevel transmitCleared b
 abbrev pub stopped : List ℕ → List ℕ
 stopped b = set (set b state idle) address 0
 
--- "idle at command 0 and drops the async word; its FIFO stays"
+-- paper 02 (i): a message word that the schedule sent last is forgotten
+abbrev pub unmarked : List ℕ → List ℕ
+unmarked b = set b messageMark 0
+
+-- "idle at command 0 and drops the async word; its FIFO stays"; paper 02 (i), of the mark: "transmitter off and a change of transmit mode forget it"
 abbrev pub forgotten : List ℕ → List ℕ
-forgotten b = set (stopped b) asyncMark 0
+forgotten b = set (unmarked (stopped b)) asyncMark 0

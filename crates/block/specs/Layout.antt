@@ -85,9 +85,13 @@ enable = latch + 1
 abbrev pub levelMask : ℕ
 levelMask = enable + 1
 
+-- paper 02 (i), "The channel record gains this one mark": 1 where "the last thing sent by the schedule was a message word"
+abbrev pub messageMark : ℕ
+messageMark = levelMask + 1
+
 -- how many words have a range: those above
 abbrev pub ranged : ℕ
-ranged = levelMask + 1
+ranged = messageMark + 1
 
 -- the async word, which is waiting where its mark is 1
 abbrev pub asyncWord : ℕ

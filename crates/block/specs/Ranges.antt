@@ -11,13 +11,13 @@ use Rattle.schedule.specs.Codes.{last}
 use Rattle.block.specs.Layout.{word, ranged, receiveLevel, receiveSize, Whole}
 
 -- "switches, two-way modes .. 0 or 1", "transmit mode .. 0 to 2", size, thresholds and rate;
--- levels and positions; state, address and async mark; latch, enable and level masks
+-- levels and positions; state, address and async mark; latch, enable and level masks; the message mark ("0 or 1", paper 02 (i))
 unfoldable pub leasts : List ℕ
 leasts =
     0 ∷ 0 ∷ 0 ∷ 0 ∷ 0 ∷ 0 ∷ 0 ∷ 0 ∷ 1 ∷ 0 ∷ 0 ∷ least
     ∷ 0 ∷ 0 ∷ 0 ∷ 0
     ∷ 0 ∷ 0 ∷ 0
-    ∷ 0 ∷ 0 ∷ 0 ∷ []
+    ∷ 0 ∷ 0 ∷ 0 ∷ 0 ∷ []
 
 -- "latch, enable and level masks 0 to 127": all seven conditions
 abbrev pub allConditions : ℕ
@@ -28,7 +28,7 @@ greatests =
     1 ∷ 1 ∷ 1 ∷ 1 ∷ 1 ∷ 1 ∷ 1 ∷ 2 ∷ slots ∷ slots ∷ slots ∷ greatest
     ∷ slots ∷ lastSlot ∷ slots ∷ lastSlot
     ∷ 2 ∷ last ∷ 1
-    ∷ allConditions ∷ allConditions ∷ allConditions ∷ []
+    ∷ allConditions ∷ allConditions ∷ allConditions ∷ 1 ∷ []
 
 -- whether x is between the least and the greatest value that two tables have for word i
 abbrev pub within : List ℕ → List ℕ → ℕ → ℕ → Bool

@@ -1,6 +1,7 @@
 // Clearing the FIFOs and stopping the transmitter.
 use crate::layout::ADDRESS;
 use crate::layout::ASYNC_MARK;
+use crate::layout::MESSAGE_MARK;
 use crate::layout::RECEIVE_CLEARED;
 use crate::layout::RECEIVE_LEVEL;
 use crate::layout::STATE;
@@ -8,7 +9,7 @@ use crate::layout::TRANSMIT_CLEARED;
 use crate::layout::TRANSMIT_LEVEL;
 ghost use mathlib.Core.Path.{_≡_};
 ghost use Rattle.block.specs.Layout.{Whole};
-ghost use Rattle.block.specs.Clearing.{receiveFifoCleared, transmitFifoCleared, stopped, forgotten};
+ghost use Rattle.block.specs.Clearing.{receiveFifoCleared, transmitFifoCleared, stopped, unmarked, forgotten};
 
 // Clears the receive FIFO and counts what it held.
 pub fn clear_receive(block: &mut [u32])
@@ -43,11 +44,20 @@ pub fn stop(block: &mut [u32])
     block[ADDRESS] = 0;
 }
 
-// Makes the transmitter idle at command 0 and drops the async word.
+// Forgets that the last thing sent by the schedule was a message word.
+pub fn unmark(block: &mut [u32])
+    requires { ⌜ Whole (now block) ⌝ }
+    ensures { λ r. ⌜ now (block .exit) ≡ unmarked (now (block .entry)) ⌝ }
+{
+    block[MESSAGE_MARK] = 0;
+}
+
+// Makes the transmitter idle at command 0, drops the async word and forgets what the schedule sent last.
 pub fn forget(block: &mut [u32])
     requires { ⌜ Whole (now block) ⌝ }
     ensures { λ r. ⌜ now (block .exit) ≡ forgotten (now (block .entry)) ⌝ }
 {
     stop(block);
+    unmark(block);
     block[ASYNC_MARK] = 0;
 }

@@ -54,8 +54,11 @@ pub const ENABLE: usize = LATCH + 1;
 
 pub const LEVEL_MASK: usize = ENABLE + 1;
 
+// The message mark: 1 where the last thing that the schedule sent was a message word.
+pub const MESSAGE_MARK: usize = LEVEL_MASK + 1;
+
 // How many words have a range: those above.
-pub const RANGED: usize = LEVEL_MASK + 1;
+pub const RANGED: usize = MESSAGE_MARK + 1;
 
 // The async word, which is waiting where its mark is 1.
 pub const ASYNC_WORD: usize = RANGED;

@@ -33,6 +33,7 @@ const LEAST: [u32; RANGED] = [
     0, // latch mask
     0, // enable mask
     0, // level mask
+    0, // message mark
 ];
 
 // The greatest mask: all seven conditions.
@@ -61,6 +62,7 @@ const GREATEST: [u32; RANGED] = [
     ALL_CONDITIONS, // latch mask
     ALL_CONDITIONS, // enable mask
     ALL_CONDITIONS, // level mask
+    1, // message mark
 ];
 
 // Whether a number is in the range of the word at an offset.

@@ -7,7 +7,7 @@ use native.Mathlib.Omega.{arith}
 use lib.ListN.{length, replicate, getD, length-append, length-replicate, replicate-append-replicate}
 use Rattle.schedule.specs.Output.{values}
 use Rattle.schedule.specs.declared.Output.{Output}
-use Rattle.schedule.specs.declared.Output.the-variants.{Quiet, FifoWord, Message, Null, Async, Reserved}
+use Rattle.schedule.specs.declared.Output.the-variants.{Quiet, FifoWord, Message, Null, Async, Reserved, NullMessage}
 use Rattle.calls.specs.Listed.{Lists}
 use Rattle.calls.specs.declared.answers.Numbers.{Numbers}
 
@@ -28,6 +28,7 @@ stepped (Message w) v e = rw e (refl, refl)
 stepped (Null g) v e = rw e (refl, refl)
 stepped (Async w g) v e = rw e (refl, refl)
 stepped (Reserved a) v e = rw e (refl, refl)
+stepped (NullMessage w) v e = rw e (refl, refl)
 
 -- the count is at most the number of words
 pub within : (n : Numbers) (l : List ℕ) → Lists n l → n .count ≤ length (n .words)

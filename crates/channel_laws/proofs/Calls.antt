@@ -10,7 +10,7 @@ use lib.ListN.{take, set}
 use Rattle.ring.specs.Ring.{slots, lastSlot}
 use Rattle.block.specs.Layout.{word, settings, receiveLevel, receiveOverwritten, transmitMode, transmitLevel, latch, enable, levelMask}
 use Rattle.block.specs.Ranges.{allConditions, leasts, greatests, Usable}
-use Rattle.block.specs.Clearing.{stopped}
+use Rattle.block.specs.Clearing.{stopped, unmarked}
 use Rattle.block.specs.Modes.{scheduled}
 use Rattle.block.specs.Counts.{counted}
 use Rattle.block.specs.Matching.{matchAt}
@@ -27,7 +27,7 @@ use Rattle.receive.proofs.Laws.{Leaves as ReceiveLeaves, entry-by-settings, arr
 use Rattle.transmit.proofs.Laws.{Leaves as TransmitLeaves, write-keeps as fifo-write-keeps, write-accepts, async-keeps, async-fifo, trigger-keeps, trigger-fifo, pause-keeps, pause-fifo, step-keeps, step-fifo, scheduled-gives-none}
 use Rattle.schedule.specs.Output.{isFifoWord}
 use Rattle.schedule.specs.declared.Output.{Output}
-use Rattle.schedule.specs.declared.Output.the-variants.{Quiet, FifoWord, Message, Null, Async, Reserved}
+use Rattle.schedule.specs.declared.Output.the-variants.{Quiet, FifoWord, Message, Null, Async, Reserved, NullMessage}
 use Rattle.transmit.specs.Step.{stepOutput}
 use Rattle.channel_calls.specs.Answers.{settingNumber}
 use Rattle.channel_calls.specs.Refusals.{settingCallRefusal, statusCallRefusal, receiveCallRefusal, transmitCallRefusal, channelRefusal}
@@ -53,7 +53,7 @@ use Rattle.channel_calls.specs.declared.calls.Answer.{Answer}
 use Rattle.block.specs.Kept.{Kept, keptOf, keptBy, effectOf}
 use Rattle.channel_laws.specs.Effects.{readChange, outputChange, effect}
 use Rattle.channel_laws.proofs.Holds.{Holds, here, parts, kept-setting, store-kept, stored, same-settings}
-use Rattle.channel_laws.proofs.Changes.{stop-kept, both-clear-kept, write-kept}
+use Rattle.channel_laws.proofs.Changes.{stop-kept, unmark-kept, both-clear-kept, write-kept}
 
 -- the rule stores the latch alone
 ruled-holds : {c : List ℕ} {h : Kept} → Holds c h → (before holds : ℕ) → Holds (ruled before holds c) h
@@ -101,13 +101,13 @@ test-left stamp (Sample r) a u = here u
 test-left stamp ResetTest a u = here u
 test-left stamp (InitiateTest r) a {b} u = record { usable = test-keeps u r; is = go (eqb r 0) }
   where
-    stop : keptOf (stopped (fifosCleared b)) ≡ keptBy counted (effectOf (take settings b) Clears Clears) (keptOf b)
-    stop = stop-kept (fifosCleared b) ∙ both-clear-kept b (u .whole)
+    stop : keptOf (unmarked (stopped (fifosCleared b))) ≡ keptBy counted (effectOf (take settings b) Clears Clears) (keptOf b)
+    stop = unmark-kept (stopped (fifosCleared b)) ∙ stop-kept (fifosCleared b) ∙ both-clear-kept b (u .whole)
 
-    go : (t : Bool) → keptOf (cond t (stopped (fifosCleared b)) (set (stopped (fifosCleared b)) latch (word b latch % faultWeight + faultWeight)))
+    go : (t : Bool) → keptOf (cond t (unmarked (stopped (fifosCleared b))) (set (unmarked (stopped (fifosCleared b))) latch (word b latch % faultWeight + faultWeight)))
         ≡ keptBy counted (effectOf (take settings b) Clears Clears) (keptOf b)
     go true = stop
-    go false = store-kept (stopped (fifosCleared b)) latch _ (omega arith) ∙ stop
+    go false = store-kept (unmarked (stopped (fifosCleared b))) latch _ (omega arith) ∙ stop
 
 -- ---- receiving
 
@@ -146,6 +146,7 @@ step-change mode (Message w) f h = refl
 step-change mode (Null g) f h = refl
 step-change mode (Async w rest) f h = refl
 step-change mode (Reserved at) f h = refl
+step-change mode (NullMessage w) f h = refl
 
 transmit-left : (stamp : ℕ) (k : TransmitCall) {b : List ℕ} → Usable b → transmitCallRefusal k b ≡ 0
     → Holds (transmitAfter k b) (keptBy counted (effect stamp (Transmit k) (transmitAnswer k b) (take settings b)) (keptOf b))

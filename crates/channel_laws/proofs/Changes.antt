@@ -9,8 +9,8 @@ use borrow.Author.Tests.{eqb-true}
 use lib.Dec.{eqb}
 use lib.ListN.{length, take, set}
 use lib.Seq.{sets, getD-set-other, take-set-le, take-set-lt, set-getD}
-use Rattle.block.specs.Layout.{word, settings, receiveMode, transmitMode, transmitter, receiveLevel, receiveCleared, receiveOverwritten, transmitLevel, transmitCleared, state, address, asyncMark, Whole}
-use Rattle.block.specs.Clearing.{receiveFifoCleared, transmitFifoCleared, stopped, forgotten}
+use Rattle.block.specs.Layout.{word, settings, receiveMode, transmitMode, transmitter, receiveLevel, receiveCleared, receiveOverwritten, transmitLevel, transmitCleared, state, address, asyncMark, messageMark, Whole}
+use Rattle.block.specs.Clearing.{receiveFifoCleared, transmitFifoCleared, stopped, unmarked, forgotten}
 use Rattle.block.specs.Counts.{counted}
 use Rattle.block.specs.Settings.{receiveModeWritten, transmitModeWritten, transmitterWritten, written}
 use Rattle.status.specs.Tests.{fifosCleared}
@@ -26,8 +26,11 @@ use Rattle.channel_laws.proofs.Holds.{withSettings, withSetting, parts,
 pub stop-kept : (b : List ℕ) → keptOf (stopped b) ≡ keptOf b
 stop-kept b = store-kept (set b state 0) address 0 (omega arith) ∙ store-kept b state 0 (omega arith)
 
+pub unmark-kept : (b : List ℕ) → keptOf (unmarked b) ≡ keptOf b
+unmark-kept b = store-kept b messageMark 0 (omega arith)
+
 pub forget-kept : (b : List ℕ) → keptOf (forgotten b) ≡ keptOf b
-forget-kept b = store-kept (stopped b) asyncMark 0 (omega arith) ∙ stop-kept b
+forget-kept b = store-kept (unmarked (stopped b)) asyncMark 0 (omega arith) ∙ unmark-kept (stopped b) ∙ stop-kept b
 
 -- ---- the FIFOs cleared
 

@@ -2,3 +2,4 @@ pub mod Holds
 pub mod Changes
 pub mod Calls
 pub mod Resets
+pub mod Spacing

@@ -10,7 +10,7 @@ use Rattle.block.specs.Factory.{factorySettings}
 use Rattle.block.specs.Fifos.{Change, Stays, Adds, Takes, Clears, Begins}
 use Rattle.block.specs.Kept.{Effect, effectOf}
 use Rattle.schedule.specs.declared.Output.{Output}
-use Rattle.schedule.specs.declared.Output.the-variants.{Quiet, FifoWord, Message, Null, Async, Reserved}
+use Rattle.schedule.specs.declared.Output.the-variants.{Quiet, FifoWord, Message, Null, Async, Reserved, NullMessage}
 use Rattle.receive.specs.Entries.{entryOf}
 use Rattle.receive.specs.Fates.{arrivalChange}
 use Rattle.receive.specs.declared.Arrival.{Arrival}
@@ -55,6 +55,7 @@ outputChange mode (Message w) = Stays
 outputChange mode (Null g) = Stays
 outputChange mode (Async w rest) = Stays
 outputChange mode (Reserved at) = Stays
+outputChange mode (NullMessage w) = Stays
 
 abbrev pub stepChange : ℕ → Answer → Change
 stepChange mode a = byAnswer Stays (λ o. Stays) (λ x. Stays) (outputChange mode) a

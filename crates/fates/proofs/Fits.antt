@@ -14,7 +14,7 @@ use Rattle.block.specs.Modes.{scheduled}
 use Rattle.block.specs.Fifos.{Fifo, Change, Stays, Adds, Overwrites, Takes, Clears, Begins, changed}
 use Rattle.block.specs.Kept.{Kept, Effect}
 use Rattle.schedule.specs.declared.Output.{Output}
-use Rattle.schedule.specs.declared.Output.the-variants.{Quiet, FifoWord, Message, Null, Async, Reserved}
+use Rattle.schedule.specs.declared.Output.the-variants.{Quiet, FifoWord, Message, Null, Async, Reserved, NullMessage}
 use Rattle.receive.specs.Entries.{wordEntry, indexEntry, entryOf}
 use Rattle.receive.specs.Reading.{shown}
 use Rattle.receive.specs.Fates.{arrivalChange}
@@ -204,6 +204,7 @@ module _ (h : Kept) (r : Every Readable (h .receive .held)) where
       by-output (Null g) t = tt
       by-output (Async w rest) t = tt
       by-output (Reserved at) t = tt
+      by-output (NullMessage w) t = tt
 
   -- both FIFOs
   abbrev BothFit : Effect → Type 0

@@ -52,7 +52,7 @@ module _ (m : List ℕ) where
   first k (Wide w) = λ s. absurd s
   first k (On ch w) = λ s. absurd s
 
-  agrees : (calls : List (ℕ × Call)) → Started m calls → Agrees (history (events m calls)) (run m calls)
+  pub agrees : (calls : List (ℕ × Call)) → Started m calls → Agrees (history (events m calls)) (run m calls)
   agrees [] s = absurd s
   agrees (x ∷ []) s = first (x .0) (x .1) s
   agrees (x ∷ y ∷ before) s = step (history (events m (y ∷ before))) (run m (y ∷ before)) (x .0) (x .1) (agrees (y ∷ before) s)

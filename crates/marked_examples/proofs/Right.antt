@@ -9,7 +9,7 @@ use Rattle.status.specs.Status.{latchBit, latched}
 use Rattle.frame.specs.Counters.{sampled}
 use Rattle.ring.specs.Ring.{words, held}
 use Rattle.schedule.specs.Output.{values}
-use Rattle.schedule.specs.Schedule.{onward, gapStep, jumpStep, commandStep, stepped}
+use Rattle.schedule.specs.Schedule.{onward, messageStep, gapStep, jumpStep, commandStep, stepped}
 use Rattle.receive.specs.Arrival.{filtered, arrival}
 use Rattle.receive.specs.Arrived.{stored}
 use Rattle.receive.specs.Entries.{stampOf, entryOf, mailed}
@@ -17,5 +17,5 @@ use Rattle.transmit.specs.Step.{scheduledOutcome}
 use Rattle.marked_examples.specs.Marked.{receiving, received, scheduling, marked, Right}
 
 pub right : Right
-unfolding Right marked sampled latchBit latched receiving received scheduling scheduledOutcome flatten ones reversed oddParity asSent errorMark clamped words held values onward gapStep jumpStep commandStep stepped filtered arrival stored stampOf entryOf mailed
+unfolding Right marked sampled latchBit latched receiving received scheduling scheduledOutcome flatten ones reversed oddParity asSent errorMark clamped words held values onward messageStep gapStep jumpStep commandStep stepped filtered arrival stored stampOf entryOf mailed
 right = refl

@@ -31,9 +31,9 @@ receiving matched kind size = set (set (set (set (factoryOf blockWords) receiver
 unfoldable pub received : List ℕ → List ℕ
 received b = flatten (fifo receiveOffsets b .held) ++ (word b receiveAccepted ∷ word b receiveOverwritten ∷ [])
 
--- a running schedule at an address, and its async word, which is waiting where its mark is 1
+-- a running schedule at an address, and its async word, which is waiting where its mark is 1; it has sent no message yet
 abbrev pub runs : ℕ → ℕ → ℕ → Place
-runs address waiting word = record { state = running; address = address; waiting = waiting; word = word }
+runs address waiting word = record { state = running; address = address; waiting = waiting; word = word; mark = 0 }
 
 -- a block whose schedule runs at command 9, which is this one, and has A in message 5
 unfoldable pub scheduling : ℕ → List ℕ

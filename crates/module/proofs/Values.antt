@@ -8,7 +8,7 @@ use lib.Dec.{eqb}
 use lib.ListN.{length, length-replicate}
 use Rattle.schedule.specs.Output.{values as outputValues}
 use Rattle.schedule.specs.declared.Output.{Output}
-use Rattle.schedule.specs.declared.Output.the-variants.{Quiet, FifoWord, Message, Null, Async, Reserved}
+use Rattle.schedule.specs.declared.Output.the-variants.{Quiet, FifoWord, Message, Null, Async, Reserved, NullMessage}
 use Rattle.transmit.specs.Step.{stepOutput}
 use Rattle.channel_calls.specs.Answers.{channelValues, answerUnless, numbersOf}
 use Rattle.channel_calls.specs.declared.calls.SettingCall.the-variants.{WriteSetting, ReadSetting}
@@ -67,6 +67,7 @@ output-length (Message w) = refl
 output-length (Null g) = refl
 output-length (Async w r) = refl
 output-length (Reserved a) = refl
+output-length (NullMessage w) = refl
 
 channel-listed : (g : Given) (k : ChannelCall) (b : List ℕ) → Listed (channelValues k) (blockAnswer g k b)
 channel-listed g (Settings (WriteSetting s v)) b = refl

@@ -8,9 +8,10 @@ use borrow.Author.Tests.{ltb-false}
 use lib.Dec.{ltb}
 use lib.ListN.{getD, set}
 use Rattle.block.specs.Counts.{counted}
-use Rattle.block.specs.Layout.{word, latch}
+use Rattle.block.specs.Layout.{word, latch, messageMark}
 use Rattle.block.specs.Ranges.{Usable}
 use Rattle.block.proofs.Sound.{is-within}
+use Rattle.block.proofs.Words.{words}
 use Rattle.status.proofs.Keeps.{rule-keeps}
 use Rattle.block.specs.Kept.{keptOf}
 use Rattle.channel_laws.proofs.Holds.{store-kept}
@@ -38,15 +39,20 @@ rule-kept : (old ch : ℕ) (m : List ℕ) → keptOf (ruledChannel old m ch) ≡
 unfolding ruledChannel
 rule-kept old ch m = store-kept (block m ch) latch _ (omega arith)
 
+rule-mark : (old ch : ℕ) (m : List ℕ) → word (ruledChannel old m ch) messageMark ≡ word (block m ch) messageMark
+unfolding ruledChannel
+rule-mark old ch m = search words
+
 -- what a call leaves of memory m, where x is m with the call's word stored
 record Left (m x m′ : List ℕ) : Type 0 where
   sane : Sane m′
   channels : word m′ count ≡ word m count
   words : (i : ℕ) → i < moduleWords → word m′ i ≡ word x i
   kept : (ch : ℕ) → 1 ≤ ch → ch ≤ word m count → keptOf (block m′ ch) ≡ keptOf (block m ch)
+  mark : (ch : ℕ) → 1 ≤ ch → ch ≤ word m count → word (block m′ ch) messageMark ≡ word (block m ch) messageMark
 
 reads : {m : List ℕ} → Sane m → Left m m m
-reads s = record { sane = s; channels = refl; words = λ i h. refl; kept = λ ch l h. refl }
+reads s = record { sane = s; channels = refl; words = λ i h. refl; kept = λ ch l h. refl; mark = λ ch l h. refl }
 
 writes : {m : List ℕ} → Sane m → (i v : ℕ) → count < i → i < moduleWords → inPart i v → Left m (set m i v) (ruledAll m (set m i v))
 writes {m} s i v l h r =
@@ -57,8 +63,14 @@ writes {m} s i v l h r =
       kept =
           λ ch p q. ap keptOf (each-block (ruled-own old) x (t .frame) (word m count) ch p q c) ∙ rule-kept old ch x
           ∙ ap keptOf (block-set m ch i v (omega arith));
+      mark =
+          λ ch p q. ap marked (each-block (ruled-own old) x (t .frame) (word m count) ch p q c) ∙ rule-mark old ch x
+          ∙ ap marked (block-set m ch i v (omega arith));
     }
   where
+    marked : List ℕ → ℕ
+    marked b = word b messageMark
+
     old : ℕ
     old = word m threshold
 
@@ -111,3 +123,6 @@ module _ {m : List ℕ} (s : Sane m) (k : WideCall) (e : callRefusal k m ≡ 0) 
 
   pub wide-kept : (ch : ℕ) → 1 ≤ ch → ch ≤ word m count → keptOf (block (wideAfter k m) ch) ≡ keptOf (block m ch)
   wide-kept = accepted .kept
+
+  pub wide-mark : (ch : ℕ) → 1 ≤ ch → ch ≤ word m count → word (block (wideAfter k m) ch) messageMark ≡ word (block m ch) messageMark
+  wide-mark = accepted .mark

@@ -1,6 +1,7 @@
 -- What arrivals and reads do to a usable block: it stays usable, and what its two FIFOs then hold.
 -- Assumes nothing.
 use mathlib.Core.Path.{_≡_, refl, sym, ap, _∙_}
+use mathlib.Core.Logic.{_≢_}
 use mathlib.Core.Bool.{Bool, true, false, cond}
 use mathlib.Core.List.{List, [], _∷_}
 use Prim.Native.Nat.{ℕ, suc, _+_, _-_, _%_, _≤_, _<_, zero-le}
@@ -13,7 +14,7 @@ use Rattle.word.specs.Parity.{errorMark}
 use Rattle.ring.specs.Ring.{slot, slots, next}
 use Rattle.ring.proofs.Words.{sets-other}
 use Rattle.ring.proofs.Laws.{take-oldest}
-use Rattle.block.specs.Layout.{word, parity, stamps, receiveMode, settings, receiveLevel, receivePosition, receiveSize, receiveAccepted, receiveRead, receiveOverwritten, receiveRing, receiveRingAt, mailboxes, Whole}
+use Rattle.block.specs.Layout.{word, parity, stamps, receiveMode, settings, receiveLevel, receivePosition, receiveSize, receiveAccepted, receiveRead, receiveOverwritten, receiveRing, receiveRingAt, messageMark, mailboxes, Whole}
 use Rattle.block.specs.Ranges.{leasts, greatests, Usable}
 use Rattle.block.specs.Counts.{counted}
 use Rattle.status.specs.Status.{parityErrorSignal}
@@ -67,34 +68,41 @@ sets-apart p b s [] h a = refl
 sets-apart p b s (x ∷ e) h a =
     sets-apart p (set b s x) (suc s) e h (λ i l u. a i (omega arith) (omega arith)) ∙ store-apart p b s x h (a s (omega arith) (omega arith))
 
--- a word that is neither a setting nor one of the transmit FIFO's
+-- a word that is neither a setting, nor the message mark, nor one of the transmit FIFO's
 record Free (i : ℕ) : Type 0 where
   setting : settings ≤ i
+  mark : messageMark ≢ i
   transmit : Apart transmitOffsets i
 
 -- what receiving leaves of a block `b`, with the block `c` after it
 pub record Leaves (b c : List ℕ) : Type 0 where
   pub setting : (i : ℕ) → i < settings → word c i ≡ word b i
+  pub mark : word c messageMark ≡ word b messageMark
   pub transmit : fifo transmitOffsets c ≡ fifo transmitOffsets b
 
 same-left : (b : List ℕ) → Leaves b b
-same-left b = record { setting = λ i h. refl; transmit = refl }
+same-left b = record { setting = λ i h. refl; mark = refl; transmit = refl }
 
 then : {b c d : List ℕ} → Leaves b c → Leaves c d → Leaves b d
-then p q = record { setting = λ i h. q .setting i h ∙ p .setting i h; transmit = q .transmit ∙ p .transmit }
+then p q = record { setting = λ i h. q .setting i h ∙ p .setting i h; mark = q .mark ∙ p .mark; transmit = q .transmit ∙ p .transmit }
 
 store-leaves : {b c : List ℕ} (i v : ℕ) → Free i → Leaves b c → Leaves b (set c i v)
 store-leaves {b} {c} i v f p =
     then p
     (record {
       setting = λ j h. getD-set-other c i j v 0 (omega (arith, f .setting));
+      mark = getD-set-other c i messageMark v 0 (f .mark);
       transmit = store-apart transmitOffsets c i v (omega arith) (f .transmit);
     })
 
-stores-leave : (b : List ℕ) (s : ℕ) (e : List ℕ) → settings ≤ s → ((i : ℕ) → s ≤ i → i < s + length e → Apart transmitOffsets i)
+stores-leave : (b : List ℕ) (s : ℕ) (e : List ℕ) → messageMark < s → ((i : ℕ) → s ≤ i → i < s + length e → Apart transmitOffsets i)
     → Leaves b (sets b s e)
 stores-leave b s e h a =
-    record { setting = λ j l. sets-other b s e j (λ x y. omega arith); transmit = sets-apart transmitOffsets b s e (omega arith) a }
+    record {
+      setting = λ j l. sets-other b s e j (λ x y. omega arith);
+      mark = sets-other b s e messageMark (λ x y. omega arith);
+      transmit = sets-apart transmitOffsets b s e (omega arith) a;
+    }
 
 -- ---- a mailbox takes the word
 
@@ -111,6 +119,7 @@ mail-leaves : (stamp w : ℕ) (b : List ℕ) → Leaves b (mailed stamp w b)
 mail-leaves stamp w b =
     record {
       setting = λ i h. mail-before stamp w b i (omega arith);
+      mark = mail-before stamp w b messageMark (omega arith);
       transmit = mail-fifo transmitOffsets stamp w b (omega arith) (λ i h. omega arith);
     }
 

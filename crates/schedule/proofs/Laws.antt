@@ -7,9 +7,10 @@ use native.Mathlib.Omega.{arith}
 use borrow.Author.Tests.{leb-false, ltb-false}
 use lib.Dec.{eqb, leb, ltb}
 use Rattle.word.specs.Gap.{clamped}
+use Rattle.word.specs.Parity.{asSent}
 use Rattle.schedule.specs.Codes.{idle, running, paused, code, target, stop, message, gap, fixedGap, pause, interrupt, jump, last, asyncGap}
 use Rattle.schedule.specs.Output.{isFifoWord}
-use Rattle.schedule.specs.Schedule.{at, onward, asyncSent, gives, gapStep, reservedStep, jumpStep, commandStep, stepped}
+use Rattle.schedule.specs.Schedule.{at, onward, asyncSent, marked, gives, messageStep, gapStep, reservedStep, jumpStep, commandStep, stepped}
 use Rattle.schedule.specs.declared.Place.{Place}
 use Rattle.schedule.specs.declared.Outcome.{Outcome}
 use Rattle.schedule.specs.declared.Output.{Output}
@@ -20,6 +21,7 @@ record Leaves (p q : Place) : Type 0 where
   address : p .address ≤ last → q .address ≤ last
   waiting : q .waiting ≤ p .waiting
   word : q .word ≡ p .word
+  mark : p .mark ≤ 1 → q .mark ≤ 1
 
 -- what holds of the whole outcome of a step from p
 record Holds (p : Place) (o : Outcome) : Type 0 where
@@ -35,18 +37,25 @@ cases Q false a b x y = y refl
 -- ---- the places
 
 idle-leaves : (p : Place) → Leaves p (at p idle 0)
-idle-leaves p = record { state = λ h. omega arith; address = λ h. omega arith; waiting = omega arith; word = refl }
+idle-leaves p = record { state = λ h. omega arith; address = λ h. omega arith; waiting = omega arith; word = refl; mark = λ h. h }
 
 onward-leaves : (p : Place) (state : ℕ) → state ≤ paused → Leaves p (onward p state)
 unfolding onward
 onward-leaves p state s =
     cases (Leaves p) (leb last (p .address)) _ _ (idle-leaves p)
-    (λ e. record { state = λ h. s; address = λ h. omega (arith, leb-false last (p .address) e); waiting = omega arith; word = refl })
+    (λ e. record { state = λ h. s; address = λ h. omega (arith, leb-false last (p .address) e); waiting = omega arith; word = refl; mark = λ h. h })
+
+-- what a place with the mark 0 or 1 leaves, the place itself leaves
+mark-leaves : (p : Place) {q : Place} (m : ℕ) → m ≤ 1 → Leaves (marked p m) q → Leaves p q
+mark-leaves p m h l = record { state = l .state; address = l .address; waiting = l .waiting; word = l .word; mark = λ _. l .mark h }
+
+marked-runs : (p : Place) (m : ℕ) → m ≤ 1 → Leaves p (onward (marked p m) running)
+marked-runs p m h = mark-leaves p m h (onward-leaves (marked p m) running (omega arith))
 
 sent-leaves : (p : Place) → Leaves p (onward (asyncSent p) running)
 sent-leaves p =
     let l : Leaves (asyncSent p) (onward (asyncSent p) running) = onward-leaves (asyncSent p) running (omega arith) in
-    record { state = l .state; address = l .address; waiting = omega arith; word = l .word }
+    record { state = l .state; address = l .address; waiting = omega arith; word = l .word; mark = l .mark }
 
 -- ---- the commands
 
@@ -60,6 +69,16 @@ gap-holds p parity g =
     (λ e. cases (Holds p) (ltb g asyncGap) _ _ (gives-holds refl (onward-leaves p running (omega arith)))
     (λ e′. gives-holds refl (sent-leaves p)))
 
+-- so does its outcome
+mark-holds : (p : Place) {o : Outcome} (m : ℕ) → m ≤ 1 → Holds (marked p m) o → Holds p o
+mark-holds p m h k = record { place = mark-leaves p m h (k .place); signal = k .signal; no-fifo-word = k .no-fifo-word }
+
+message-holds : (p : Place) (word : ℕ) → Holds p (messageStep p word)
+unfolding messageStep
+message-holds p word =
+    let after = marked-runs p 1 (omega arith) in
+    cases (Holds p) (eqb (p .mark) 0) _ _ (gives-holds refl after) (λ e. gives-holds refl after)
+
 reserved-holds : (p : Place) → Holds p (reservedStep p)
 reserved-holds p = gives-holds refl (idle-leaves p)
 
@@ -67,15 +86,15 @@ jump-holds : (p : Place) (to : ℕ) → Holds p (jumpStep p to)
 unfolding jumpStep
 jump-holds p to =
     cases (Holds p) (ltb last to) _ _ (reserved-holds p)
-    (λ e. gives-holds refl (record { state = λ h. omega arith; address = λ h. ltb-false last to e; waiting = omega arith; word = refl }))
+    (λ e. gives-holds refl (record { state = λ h. omega arith; address = λ h. ltb-false last to e; waiting = omega arith; word = refl; mark = λ h. h }))
 
 command-holds : (p : Place) (parity command value : ℕ) → Holds p (commandStep p parity command value)
 unfolding commandStep
 command-holds p parity command value =
     is stop (gives-holds refl (idle-leaves p))
-    (is message (gives-holds refl onward-runs)
-    (is gap (gap-holds p parity (clamped value))
-    (is fixedGap (gives-holds refl onward-runs)
+    (is message (message-holds p (asSent parity value))
+    (is gap (mark-holds p 0 (omega arith) (gap-holds (marked p 0) parity (clamped value)))
+    (is fixedGap (gives-holds refl (marked-runs p 0 (omega arith)))
     (is pause (gives-holds refl (onward-leaves p paused (omega arith)))
     (is interrupt (record { place = onward-runs; signal = omega arith; no-fifo-word = refl })
     (is jump (jump-holds p (target command)) (reserved-holds p)))))))
@@ -90,7 +109,7 @@ holds : (p : Place) (parity command value : ℕ) → Holds p (stepped p parity c
 unfolding stepped
 holds p parity command value =
     cases (Holds p) (eqb (p .state) running) _ _ (command-holds p parity command value)
-    (λ e. gives-holds refl (record { state = λ h. h; address = λ h. h; waiting = omega arith; word = refl }))
+    (λ e. gives-holds refl (record { state = λ h. h; address = λ h. h; waiting = omega arith; word = refl; mark = λ h. h }))
 
 -- ---- the laws
 
@@ -106,6 +125,9 @@ module _ (p : Place) (parity command value : ℕ) where
 
   pub step-word : stepped p parity command value .place .word ≡ p .word
   step-word = holds p parity command value .place .word
+
+  pub step-mark : p .mark ≤ 1 → stepped p parity command value .place .mark ≤ 1
+  step-mark h = holds p parity command value .place .mark h
 
   pub step-signal : stepped p parity command value .signal ≤ 1
   step-signal = holds p parity command value .signal

@@ -1,3 +1,4 @@
 pub mod Codes
 pub mod Output
 pub mod Schedule
+pub mod Spacing

@@ -6,7 +6,7 @@ ghost use Prim.Native.Nat.{_<_, _≤_};
 ghost use lib.ListN.{length};
 ghost use Rattle.schedule.specs.Codes.{messageAddress, messages};
 ghost use Rattle.schedule.specs.Output.{values};
-ghost use Rattle.schedule.specs.Schedule.{at, onward, asyncSent, gives, gapStep, reservedStep, jumpStep, commandStep, stepped, stepAt};
+ghost use Rattle.schedule.specs.Schedule.{at, onward, asyncSent, marked, gives, messageStep, gapStep, reservedStep, jumpStep, commandStep, stepped, stepAt};
 
 // The transmitter's states.
 pub const IDLE: u32 = 0;
@@ -47,7 +47,7 @@ pub const ASYNC_GAP: u32 = 40;
 pub const ASYNC_PART: u32 = 36;
 
 // What one step gives: nothing; a word of the FIFO and the gap behind it; a message's word; a null time; a gap with an async word in it,
-// that is the least gap, the word and the rest of null time; the address of a reserved command. The FIFO's word is no output of a schedule:
+// that is the least gap, the word and the rest of null time; the address of a reserved command; the least gap and a message's word. The FIFO's word is no output of a schedule:
 // it stands here so that a step in any mode has one type of output.
 pub enum Output {
     Quiet,
@@ -56,14 +56,17 @@ pub enum Output {
     Null(u32),
     Async(u32, u32),
     Reserved(u32),
+    NullMessage(u32),
 }
 
-// Where a schedule stands: the transmitter's state, the address of the next command, whether an async word waits (0 or 1), and that word.
+// Where a schedule stands: the transmitter's state, the address of the next command, whether an async word waits (0 or 1), that word, and
+// whether the last thing that the schedule sent was a message word (0 or 1).
 pub struct Place {
     pub state: u32,
     pub address: u32,
     pub waiting: u32,
     pub word: u32,
+    pub mark: u32,
 }
 
 // What a step gives and leaves; `signal` is 1 where the command signals condition 5, else 0.
@@ -91,10 +94,11 @@ pub fn values(output: Output) -> [u32; 4]
         Output::Null(time) => [3, time, 0, 0],
         Output::Async(word, rest) => [4, Gap::LEAST, word, rest],
         Output::Reserved(address) => [5, address, 0, 0],
+        Output::NullMessage(word) => [6, Gap::LEAST, word, 0],
     }
 }
 
-// The schedule in a state at a command; its async word stays.
+// The schedule in a state at a command; its async word and its message mark stay.
 fn at(place: Place, state: u32, address: u32) -> Place
     ensures { λ r. ⌜ r ≡ at place state address ⌝ }
 {
@@ -103,6 +107,7 @@ fn at(place: Place, state: u32, address: u32) -> Place
         address,
         waiting: place.waiting,
         word: place.word,
+        mark: place.mark,
     }
 }
 
@@ -125,6 +130,20 @@ fn async_sent(place: Place) -> Place
         address: place.address,
         waiting: 0,
         word: place.word,
+        mark: place.mark,
+    }
+}
+
+// The same place with the message mark set or cleared.
+fn marked(place: Place, mark: u32) -> Place
+    ensures { λ r. ⌜ r ≡ marked place mark ⌝ }
+{
+    Place {
+        state: place.state,
+        address: place.address,
+        waiting: place.waiting,
+        word: place.word,
+        mark,
     }
 }
 
@@ -137,6 +156,17 @@ fn gives(output: Output, place: Place) -> Outcome
         place,
         signal: 0,
     }
+}
+
+// A message: the least gap goes before it where the last thing sent was a message too.
+fn message_step(place: Place, word: u32) -> Outcome
+    ensures { λ r. ⌜ r ≡ messageStep place word ⌝ }
+{
+    let after = onward(marked(place, 1), RUNNING);
+    if place.mark == 0 {
+        return gives(Output::Message(word), after);
+    }
+    gives(Output::NullMessage(word), after)
 }
 
 // A gap of `gap` bit times: a waiting async word goes out in one that is long enough.
@@ -183,16 +213,14 @@ fn command_step(place: Place, parity: u32, command: u32, value: u32) -> Outcome
         return gives(Output::Quiet, at(place, IDLE, 0));
     }
     if code == MESSAGE {
-        return gives(
-            Output::Message(word::as_sent(parity, value)),
-            onward(place, RUNNING),
-        );
+        return message_step(place, word::as_sent(parity, value));
     }
     if code == GAP {
-        return gap_step(place, parity, Gap::clamp(value).time);
+        return gap_step(marked(place, 0), parity, Gap::clamp(value).time);
     }
     if code == FIXED_GAP {
-        return gives(Output::Null(Gap::clamp(value).time), onward(place, RUNNING));
+        let after = onward(marked(place, 0), RUNNING);
+        return gives(Output::Null(Gap::clamp(value).time), after);
     }
     if code == PAUSE {
         return gives(Output::Quiet, onward(place, PAUSED));

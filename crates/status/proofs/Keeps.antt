@@ -9,10 +9,10 @@ use lib.Dec.{eqb}
 use lib.ListN.{set}
 use Rattle.block.specs.Layout.{word, receiveLevel, latch, enable, levelMask, Whole}
 use Rattle.block.specs.Ranges.{leasts, greatests, Usable}
-use Rattle.block.specs.Clearing.{stopped, forgotten}
+use Rattle.block.specs.Clearing.{stopped, unmarked, forgotten}
 use Rattle.block.proofs.Words.{words}
 use Rattle.block.proofs.Sound.{in-range}
-use Rattle.block.proofs.Keeps.{usable-store, receive-cleared, transmit-cleared, stop-keeps, forget-keeps, factory-keeps}
+use Rattle.block.proofs.Keeps.{usable-store, receive-cleared, transmit-cleared, stop-keeps, unmark-keeps, forget-keeps, factory-keeps}
 use Rattle.status.specs.Status.{bit, seven, latchBit, latched, ruled, keptBit, kept, latchCleared}
 use Rattle.status.specs.Tests.{fifosCleared, tested, blockReset}
 
@@ -61,9 +61,9 @@ module _ {b : List ℕ} (u : Usable b) where
   unfolding tested leasts greatests
   test-keeps result = go (eqb result 0)
     where
-      go : (t : Bool) → Usable (cond t (stopped (fifosCleared b)) (set (stopped (fifosCleared b)) latch (word b latch % 64 + 64)))
-      go true = stop-keeps fifos-cleared
-      go false = usable-store (stop-keeps fifos-cleared) latch _ (omega arith) (in-range latch (word b latch % 64 + 64) zero-le (omega arith))
+      go : (t : Bool) → Usable (cond t (unmarked (stopped (fifosCleared b))) (set (unmarked (stopped (fifosCleared b))) latch (word b latch % 64 + 64)))
+      go true = unmark-keeps (stop-keeps fifos-cleared)
+      go false = usable-store (unmark-keeps (stop-keeps fifos-cleared)) latch _ (omega arith) (in-range latch (word b latch % 64 + 64) zero-le (omega arith))
 
 pub reset-keeps : {b : List ℕ} → Usable b → Usable (blockReset b)
 unfolding blockReset leasts greatests

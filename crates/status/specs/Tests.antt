@@ -5,7 +5,7 @@ use mathlib.Core.Bool.{cond}
 use lib.Dec.{eqb}
 use lib.ListN.{set}
 use Rattle.block.specs.Layout.{word, latch, enable, levelMask}
-use Rattle.block.specs.Clearing.{receiveFifoCleared, transmitFifoCleared, stopped, forgotten}
+use Rattle.block.specs.Clearing.{receiveFifoCleared, transmitFifoCleared, stopped, unmarked, forgotten}
 use Rattle.block.specs.Factory.{settingsToFactory}
 use Rattle.status.specs.Status.{faultWeight}
 
@@ -13,11 +13,12 @@ use Rattle.status.specs.Status.{faultWeight}
 abbrev pub fifosCleared : List ℕ → List ℕ
 fifosCleared b = transmitFifoCleared (receiveFifoCleared b)
 
--- "both FIFOs are cleared, transmitter idle at command 0, the async word stays; a failing result also latches bit 6"
+-- "both FIFOs are cleared, transmitter idle at command 0, the async word stays; a failing result also latches bit 6"; paper 02 (i), of the
+-- mark: "initiated test .. forget it"
 unfoldable pub tested : ℕ → List ℕ → List ℕ
 tested result b =
-    cond (eqb result 0) (stopped (fifosCleared b))
-    (set (stopped (fifosCleared b)) latch (word b latch % faultWeight + faultWeight))
+    cond (eqb result 0) (unmarked (stopped (fifosCleared b)))
+    (set (unmarked (stopped (fifosCleared b))) latch (word b latch % faultWeight + faultWeight))
 
 -- "all FIFOs cleared, async words dropped, transmitters idle at command 0, settings to factory, .. latches and enables 0, all edge"
 unfoldable pub blockReset : List ℕ → List ℕ

@@ -4,6 +4,7 @@ use block::clearing::clear_receive;
 use block::clearing::clear_transmit;
 use block::clearing::forget;
 use block::clearing::stop;
+use block::clearing::unmark;
 use block::factory::reset_settings;
 use block::layout::ENABLE;
 use block::layout::LATCH;
@@ -29,6 +30,7 @@ pub fn initiated_test(block: &mut [u32], result: u32)
     let latch = block[LATCH];
     clear_fifos(block);
     stop(block);
+    unmark(block);
     if result == 0 {
         return;
     }

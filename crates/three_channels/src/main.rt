@@ -60,6 +60,10 @@ fn show_output(output: Output) {
             write(b" reserved command at");
             number(address);
         }
+        Output::NullMessage(sent) => {
+            write(b" null 4 word");
+            word(sent);
+        }
     }
 }
 

@@ -15,7 +15,7 @@ use Rattle.word.specs.Parity.{asSent}
 use Rattle.word.proofs.Laws.{sent-keeps}
 use Rattle.ring.specs.Ring.{slot, slots, next, words}
 use Rattle.ring.proofs.Laws.{take-oldest}
-use Rattle.block.specs.Layout.{word, settings, transmitter, parity, rate, receiveOverwritten, transmitLevel, transmitPosition, transmitAccepted, transmitSent, transmitMode, transmitRing, state, address, asyncMark, asyncWord, ranged}
+use Rattle.block.specs.Layout.{word, settings, transmitter, parity, rate, receiveOverwritten, transmitLevel, transmitPosition, transmitAccepted, transmitSent, transmitMode, transmitRing, state, address, asyncMark, messageMark, asyncWord, ranged}
 use Rattle.block.specs.Ranges.{leasts, greatests, inRange, Usable}
 use Rattle.block.specs.Counts.{counted}
 use Rattle.block.specs.Fifos.{receiveOffsets, transmitOffsets, entryTaken, fifo, accepts, gives}
@@ -25,7 +25,7 @@ use Rattle.schedule.specs.Codes.{idle, running, paused, last}
 use Rattle.schedule.specs.Output.{isFifoWord}
 use Rattle.schedule.specs.declared.Output.{Output}
 use Rattle.schedule.specs.declared.Output.the-variants.{Quiet, FifoWord}
-use Rattle.schedule.proofs.Laws.{step-state, step-address, step-waiting, no-fifo-word}
+use Rattle.schedule.proofs.Laws.{step-state, step-address, step-waiting, step-mark, no-fifo-word}
 use Rattle.transmit.specs.Writes.{HasRoom, fifoWritten, asyncWritten}
 use Rattle.block.specs.Modes.{immediate, triggered, scheduled}
 use Rattle.transmit.specs.States.{afterTrigger, afterPause}
@@ -59,7 +59,7 @@ stored {b} {c} l i v a r =
       overwritten = getD-set-other c i receiveOverwritten v 0 (a .overwritten) ∙ l .overwritten;
     }
 
--- a word without a range, a level, a state, an address, an async mark
+-- a word without a range, a level, a state, an address, a mark
 stored-behind : {b c : List ℕ} → Leaves b c → (i v : ℕ) → Aside i → ranged ≤ i → Leaves b (set c i v)
 stored-behind l i v a h = stored l i v a (λ r. absurd (omega arith))
 
@@ -78,6 +78,10 @@ stored-address l v h = stored l address v (omega arith) (λ _. in-range address 
 stored-mark : {b c : List ℕ} → Leaves b c → (v : ℕ) → v ≤ 1 → Leaves b (set c asyncMark v)
 unfolding leasts greatests
 stored-mark l v h = stored l asyncMark v (omega arith) (λ _. in-range asyncMark v zero-le h)
+
+stored-message-mark : {b c : List ℕ} → Leaves b c → (v : ℕ) → v ≤ 1 → Leaves b (set c messageMark v)
+unfolding leasts greatests
+stored-message-mark l v h = stored l messageMark v (omega arith) (λ _. in-range messageMark v zero-le h)
 
 -- ---- writes
 
@@ -207,10 +211,11 @@ module _ {b : List ℕ} (u : Usable b) where
   unfolding scheduledOutcome leasts greatests
   scheduled-steps =
       none-sent (no-fifo-word (place b) (word b parity) (command b) (message b))
-      (stored-mark (stored-address (stored-state (unchanged u) _ (step-state (place b) (word b parity) (command b) (message b) (at-most u state (omega arith))))
+      (stored-message-mark (stored-mark (stored-address (stored-state (unchanged u) _ (step-state (place b) (word b parity) (command b) (message b) (at-most u state (omega arith))))
       _ (step-address (place b) (word b parity) (command b) (message b) (at-most u address (omega arith))))
       _ (step-waiting (place b) (word b parity) (command b) (message b) (at-most u asyncMark (omega arith))))
-      (store-apart transmitOffsets _ asyncMark _ (omega arith) (omega arith) ∙ store-apart transmitOffsets _ address _ (omega arith) (omega arith)
+      _ (step-mark (place b) (word b parity) (command b) (message b) (at-most u messageMark (omega arith))))
+      (store-apart transmitOffsets _ messageMark _ (omega arith) (omega arith) ∙ store-apart transmitOffsets _ asyncMark _ (omega arith) (omega arith) ∙ store-apart transmitOffsets _ address _ (omega arith) (omega arith)
       ∙ state-fifo b _)
 
   steps : Steps b (stepOutput b) (stepAfter b)

@@ -5,7 +5,7 @@ use mathlib.Core.Bool.{cond}
 use lib.Dec.{eqb}
 use lib.ListN.{getD, set}
 use Rattle.word.specs.Parity.{asSent}
-use Rattle.block.specs.Layout.{word, transmitter, parity, transmitMode, rate, transmitLevel, state, address, asyncMark, asyncWord, messageRam, scheduleRam}
+use Rattle.block.specs.Layout.{word, transmitter, parity, transmitMode, rate, transmitLevel, state, address, asyncMark, messageMark, asyncWord, messageRam, scheduleRam}
 use Rattle.block.specs.Fifos.{transmitOffsets, oldestEntry, entryTaken}
 use Rattle.block.specs.Memories.{ramRead}
 use Rattle.status.specs.Status.{interruptSignal}
@@ -48,7 +48,14 @@ triggeredAfter b = cond (eqb (word b state) running) (cond (eqb (word b transmit
 
 -- where the schedule stands
 abbrev pub place : List ℕ → Place
-place b = record { state = word b state; address = word b address; waiting = word b asyncMark; word = word b asyncWord }
+place b =
+    record {
+      state = word b state;
+      address = word b address;
+      waiting = word b asyncMark;
+      word = word b asyncWord;
+      mark = word b messageMark;
+    }
 
 -- "one command of the schedule RAM", and "message RAM at bits 7 to 0"
 abbrev pub command : List ℕ → ℕ
@@ -61,9 +68,9 @@ message b = ramRead messageRam (messageAddress (command b)) b
 unfoldable pub scheduledOutcome : List ℕ → Outcome
 scheduledOutcome b = stepped (place b) (word b parity) (command b) (message b)
 
--- the block with the state, the address and the async mark of a place: the async word stays
+-- the block with the state, the address and the marks of a place: the async word stays
 abbrev pub placed : Place → List ℕ → List ℕ
-placed p b = set (set (set b state (p .state)) address (p .address)) asyncMark (p .waiting)
+placed p b = set (set (set (set b state (p .state)) address (p .address)) asyncMark (p .waiting)) messageMark (p .mark)
 
 abbrev pub scheduledAfter : List ℕ → List ℕ
 scheduledAfter b = placed (scheduledOutcome b .place) b

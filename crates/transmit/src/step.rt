@@ -2,6 +2,7 @@
 use block::layout::ADDRESS;
 use block::layout::ASYNC_MARK;
 use block::layout::ASYNC_WORD;
+use block::layout::MESSAGE_MARK;
 use block::layout::MESSAGE_RAM;
 use block::layout::PARITY;
 use block::layout::RATE;
@@ -91,6 +92,7 @@ fn command(block: &[u32]) -> Outcome
         address: block[ADDRESS],
         waiting: block[ASYNC_MARK],
         word: block[ASYNC_WORD],
+        mark: block[MESSAGE_MARK],
     };
     let parity = block[PARITY];
     schedule::step_at(
@@ -111,6 +113,7 @@ fn scheduled(block: &mut [u32]) -> Stepped
     block[STATE] = after.state;
     block[ADDRESS] = after.address;
     block[ASYNC_MARK] = after.waiting;
+    block[MESSAGE_MARK] = after.mark;
     let output = outcome.output;
     let signal = outcome.signal * INTERRUPT;
     Stepped { output, signal }

@@ -12,23 +12,23 @@ returns c = search (branches, c .gives .ensures, c .before .at .ensures)
 
 returns-2 : tie.Need-returns-2
 unfolding commandStep
-returns-2 c = search (branches, c .gives2 .ensures, c .before .onward .ensures, c .before .before .as-sent .ensures)
+returns-2 c = search (branches, c .message-step .ensures, c .before .as-sent .ensures)
 
 returns-3 : tie.Need-returns-3
 unfolding commandStep
-returns-3 c = search (branches, c .gap-step .ensures, c .before .clamp .ensures)
+returns-3 c = search (branches, c .gap-step .ensures, c .before .clamp .ensures, c .before .before .marked .ensures)
 
 returns-4 : tie.Need-returns-4
 unfolding commandStep
-returns-4 c = search (branches, c .gives3 .ensures, c .before .onward2 .ensures, c .before .before .clamp2 .ensures)
+returns-4 c = search (branches, c .gives2 .ensures, c .before .clamp2 .ensures, c .before .before .onward .ensures, c .before .before .before .marked2 .ensures)
 
 returns-5 : tie.Need-returns-5
 unfolding commandStep
-returns-5 c = search (branches, c .gives4 .ensures, c .before .onward3 .ensures)
+returns-5 c = search (branches, c .gives3 .ensures, c .before .onward2 .ensures)
 
 returns-6 : tie.Need-returns-6
 unfolding commandStep
-returns-6 c = search (branches, c .onward4 .ensures)
+returns-6 c = search (branches, c .onward3 .ensures)
 
 returns-7 : tie.Need-returns-7
 unfolding commandStep
@@ -41,6 +41,6 @@ returns-8 c = search (branches, c .reserved-step .ensures)
 pub command-step-spec : {M : Type 1} → statement M
 command-step-spec =
     tie.close
-    (tie.spec (search needs) (search needs) returns (search needs) (search needs) (search needs) returns-2 (search needs) (search needs) returns-3
-    (search needs) (search needs) (search needs) returns-4 (search needs) (search needs) returns-5 (search needs) returns-6 (search needs) returns-7
+    (tie.spec (search needs) (search needs) returns (search needs) (search needs) returns-2 (search needs) (search needs) (search needs) returns-3
+    (search needs) (search needs) (search needs) (search needs) returns-4 (search needs) (search needs) returns-5 (search needs) returns-6 (search needs) returns-7
     (search needs) returns-8)

@@ -29,8 +29,12 @@ returns-6 : tie.Need-returns-6
 unfolding values
 returns-6 c = rw (c .before .output5 .given .1)
 
+returns-7 : tie.Need-returns-7
+unfolding values
+returns-7 c = rw (c .before .output6 .given .1)
+
 pub values-spec : {M : Type 1} → statement M
 values-spec =
     tie.close
-    (tie.spec (search needs) (search needs) (search needs) (search needs) (search needs) (search needs) returns returns-2 returns-3 returns-4
-    returns-5 returns-6)
+    (tie.spec (search needs) (search needs) (search needs) (search needs) (search needs) (search needs) (search needs) returns returns-2 returns-3 returns-4
+    returns-5 returns-6 returns-7)

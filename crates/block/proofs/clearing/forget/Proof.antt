@@ -1,12 +1,13 @@
--- `block::clearing::forget` meets its contract, from what `stop` ensures.
+-- `block::clearing::forget` meets its contract, from what its callees ensure.
 -- Assumes nothing.
-use Rattle.word.proofs.Branches.{branches}
+use lib.ListN.{length-set}
+use native.Mathlib.Omega.{arith}
 use borrow.Author.Needs.{needs}
 use Rattle.block.proofs.clearing.forget.Statement.{statement}
 use Rattle.block.proofs.clearing.forget.Tie as tie
 
 returns : tie.Need-returns
-returns c = search (branches, c .before .before .stop .ensures)
+returns c = cc
 
 pub forget-spec : {M : Type 1} → statement M
-forget-spec = tie.close (tie.spec (λ c. search needs) (λ c. search needs) (λ c. search needs) returns)
+forget-spec = tie.close (tie.spec (λ c. search needs) (λ c. search needs) (λ c. search needs) (λ c. simp length-set (omega arith)) returns)

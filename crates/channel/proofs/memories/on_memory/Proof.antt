@@ -30,10 +30,10 @@ read-requires-3 : tie.Need-read-requires-3
 read-requires-3 c κs = omega (arith, not-above lastMessage _ 3 (rw (c .before .before .call6 .given .1) at (c .before .before .before .before .before .pre .1)))
 
 returns : tie.Need-returns
-returns c = (cc, cc)
+returns c = rw (c .before .before .before .before .before .call .given .1) (refl, c .before .before .write .ensures)
 
 returns-2 : tie.Need-returns-2
-returns-2 c = (cc, cc)
+returns-2 c = rw (c .before .before .before .call2 .given .1) (ap Value (c .read .ensures), refl)
 
 returns-3 : tie.Need-returns-3
 returns-3 c = rw (c .before .before .before .before .before .call3 .given .1) (refl, c .before .before .write2 .ensures)

@@ -22,4 +22,4 @@ returns-2 c = rw (ne-eqb _ 0 (c .if1 .left)) (cc)
 pub initiated-test-spec : {M : Type 1} → statement M
 initiated-test-spec =
     tie.close
-    (tie.spec (search needs) (search needs) (search needs) (search needs) returns (search needs) (search needs) same-length-2 returns-2)
+    (tie.spec (search needs) (search needs) (search needs) (search needs) (search needs) returns (search needs) (search needs) same-length-2 returns-2)

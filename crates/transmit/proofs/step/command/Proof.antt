@@ -37,7 +37,7 @@ outcome-is {b} u o e =
 
 step-at-requires : tie.Need-step-at-requires
 step-at-requires c κs =
-    let start = c .before .before .before .before .before .before .before .before in
+    let start = c .before .before .before .before .before .before .before .before .before in
     let b : List ℕ = start .args .block .now in
     let long : scheduleRam + commands ≤ length b = omega (arith, start .pre .whole) in
     let s = part-length scheduleRam commands b long in
@@ -45,10 +45,10 @@ step-at-requires c κs =
     (omega (arith, address-fits (start .pre)), omega arith)
 
 returns : tie.Need-returns
-returns c = outcome-is (c .before .before .before .before .before .before .before .before .before .pre) (c .step-at .result) (c .step-at .ensures)
+returns c = outcome-is (c .before .before .before .before .before .before .before .before .before .before .pre) (c .step-at .result) (c .step-at .ensures)
 
 pub command-spec : {M : Type 1} → statement M
 command-spec =
     tie.close
-    (tie.spec (λ c. search needs) (λ c. search needs) (λ c. search needs) (λ c. search needs) (λ c. search needs) (λ c. search needs) (λ c. search needs) (λ c. search needs)
+    (tie.spec (λ c. search needs) (λ c. search needs) (λ c. search needs) (λ c. search needs) (λ c. search needs) (λ c. search needs) (λ c. search needs) (λ c. search needs) (λ c. search needs)
     (λ c. search needs) (λ c. search needs) (λ c. search needs) step-at-requires returns)

@@ -26,4 +26,4 @@ returns c = rw (c .before .before .command .ensures) (refl, refl, refl)
 pub scheduled-spec : {M : Type 1} → statement M
 scheduled-spec =
     tie.close
-    (tie.spec (λ c κs. search needs) (λ c. search needs) (λ c. search needs) (λ c. search needs) mul-signal (λ c. search needs) returns)
+    (tie.spec (λ c κs. search needs) (λ c. search needs) (λ c. search needs) (λ c. search needs) (λ c. search needs) mul-signal (λ c. search needs) returns)

@@ -1,0 +1,300 @@
+//! How often the random lists meet a rule: every call with the words before and after it, and counts by table.
+#![allow(dead_code)]
+
+use second::calls::Item;
+use second::compare::LIST_CALLS;
+use second::layout::*;
+use second::lists::{lists, Event};
+use second::words;
+
+pub const CALLS: u64 = 200_000;
+
+/// A call with its answer, and the words that its rules speak of, before and after it.
+pub struct Seen {
+    pub item: Item,
+    pub answer: Vec<u32>,
+    pub before: Words,
+    pub after: Words,
+}
+
+/// The module part, the addressed channel's words before its rings, and the words that a step, an arrival or a mailbox read would use.
+pub struct Words {
+    pub part: [u32; MODULE_WORDS],
+    pub ch: [u32; RECEIVE_RING],
+    pub command: u32,
+    pub stored: u32,
+    pub mailbox: u32,
+    /// Channels whose schedule sent a message word last.
+    pub marked: usize,
+}
+
+impl Words {
+    /// None where the memory has no such channel; a module-wide call is seen with channel 1.
+    pub fn of(mem: &[u32], item: Item) -> Option<Words> {
+        let channel = if item.op < 32 { 1 } else { item.channel };
+        if mem.len() < MODULE_WORDS || !(1..=mem[COUNT].min(12)).contains(&channel) || mem.len() < need(mem[COUNT]) {
+            return None;
+        }
+        let ch = &mem[block(channel)..][..BLOCK_WORDS];
+        let command = ch[SCHEDULE_RAM + ch[COMMAND] as usize % 256];
+        Some(Words {
+            part: mem[..MODULE_WORDS].try_into().unwrap(),
+            ch: ch[..RECEIVE_RING].try_into().unwrap(),
+            command,
+            stored: ch[MESSAGE_RAM + command as usize % 256],
+            mailbox: ch[MAILBOXES + 3 * (item.a as usize % 1024)],
+            marked: (1..=mem[COUNT]).filter(|&c| mem[block(c) + WORD_MARK] == 1).count(),
+        })
+    }
+}
+
+impl Seen {
+    pub fn number(&self) -> u32 {
+        self.answer[0]
+    }
+
+    pub fn done(&self, op: u32) -> bool {
+        self.item.op == op && self.number() == 0
+    }
+
+    pub fn refused(&self, op: u32, number: u32) -> bool {
+        self.item.op == op && self.number() == number
+    }
+
+    pub fn is(&self, word: usize, value: u32) -> bool {
+        self.before.ch[word] == value
+    }
+
+    pub fn waits(&self) -> bool {
+        self.is(ASYNC_MARK, 1)
+    }
+
+    /// A setting written, accepted.
+    pub fn writes(&self, setting: usize) -> bool {
+        self.done(32 + setting as u32)
+    }
+
+    /// The setting written is the one held.
+    pub fn same(&self, setting: usize) -> bool {
+        self.is(setting, self.item.a)
+    }
+
+    /// An arrival in this receive mode with this outcome.
+    pub fn arrival(&self, mode: u32, outcome: u32) -> bool {
+        self.done(128) && self.is(RECEIVE_MODE, mode) && self.answer[1] == outcome
+    }
+
+    pub fn in_error(&self) -> bool {
+        self.is(PARITY, 1) && self.item.a.count_ones() % 2 == 0
+    }
+
+    /// A step with the transmitter on.
+    pub fn step(&self, mode: u32, state: u32) -> bool {
+        self.done(138) && self.is(TRANSMITTER, 1) && self.is(TRANSMIT_MODE, mode) && self.is(STATE, state)
+    }
+
+    pub fn form(&self, form: u32) -> bool {
+        self.done(138) && self.answer[1] == form
+    }
+
+    /// A step that runs a command of this code.
+    pub fn runs(&self, code: u32) -> bool {
+        self.step(2, 1) && self.before.command >> 12 & 15 == code
+    }
+
+    pub fn runs_reserved(&self) -> bool {
+        self.step(2, 1) && self.before.command >> 12 & 15 > 6
+    }
+
+    pub fn target(&self) -> u32 {
+        self.before.command & 511
+    }
+
+    pub fn last(&self) -> bool {
+        self.is(COMMAND, 255)
+    }
+
+    /// A gap, fixed or not, of this many bit times.
+    pub fn gap(&self, code: u32, least: u32, greatest: u32) -> bool {
+        self.runs(code) && (least..=greatest).contains(&self.before.stored)
+    }
+
+    /// A call of this op on a transmitter in this mode and state.
+    pub fn from(&self, op: u32, mode: u32, state: u32) -> bool {
+        self.done(op) && self.is(TRANSMIT_MODE, mode) && self.is(STATE, state)
+    }
+
+    pub fn counter(&self) -> u32 {
+        self.before.part[COUNTERS + self.item.channel as usize - 1]
+    }
+
+    pub fn sample(&self, result: u32) -> bool {
+        self.done(143) && self.item.a == result
+    }
+
+    pub fn threshold(&self) -> u32 {
+        self.before.part[THRESHOLD]
+    }
+
+    /// How many of the twelve counters are above a threshold.
+    pub fn above(&self, threshold: u32) -> usize {
+        self.before.part[COUNTERS..].iter().filter(|&&counter| counter > threshold).count()
+    }
+
+    /// Conditions 0 to 6 that hold with these words, but for 4 and 5.
+    pub fn conditions(&self, words: &Words) -> u32 {
+        let (ch, part) = (&words.ch, &words.part);
+        u32::from(ch[RECEIVE_LEVEL] >= ch[ALMOST_FULL])
+            | u32::from(ch[RECEIVE_LEVEL] == ch[SIZE]) << 1
+            | u32::from(ch[TRANSMIT_LEVEL] <= ch[ALMOST_EMPTY]) << 2
+            | u32::from(ch[TRANSMIT_LEVEL] == 0) << 3
+            | u32::from(part[COUNTERS + self.item.channel as usize - 1] > part[THRESHOLD]) << 6
+    }
+
+    /// This condition holds after the call and did not before.
+    pub fn begins(&self, bit: u32) -> bool {
+        (self.conditions(&self.after) & !self.conditions(&self.before)) >> bit & 1 == 1
+    }
+
+    /// This condition, but for 4 and 5, holds before and after an accepted call on a channel.
+    pub fn stays(&self, bit: u32) -> bool {
+        self.on_channel() && (self.conditions(&self.after) & self.conditions(&self.before)) >> bit & 1 == 1
+    }
+
+    pub fn on_channel(&self) -> bool {
+        self.item.op >= 32 && self.number() == 0
+    }
+
+    /// The rule sets this latch bit, which was clear, or which the call clears first.
+    pub fn latches(&self, bit: u32) -> bool {
+        let mut found = self.before.ch[LATCH];
+        if self.item.op == 147 {
+            found &= !self.item.a;
+        }
+        if self.item.op == 145 && self.item.a == 1 {
+            found |= 64;
+        }
+        self.on_channel() && (self.after.ch[LATCH] & !found) >> bit & 1 == 1
+    }
+
+    pub fn by_level(&self, bit: u32) -> bool {
+        self.after.ch[LEVEL_MASK] >> bit & 1 == 1
+    }
+
+    /// The only word of the block outside its range is this one, and the module part is sound.
+    pub fn outside(&self, word: usize) -> bool {
+        let wrong = |&word: &usize| !(RANGES[word].0..=RANGES[word].1).contains(&self.before.ch[word]);
+        self.part_is_sound() && (0..RANGED).filter(wrong).eq([word])
+    }
+
+    pub fn part_is_sound(&self) -> bool {
+        let part = &self.before.part;
+        part[RESOLUTION] <= 3 && (1..=65_535).contains(&part[THRESHOLD]) && self.above(65_536) == 0
+    }
+
+    /// One beside its range, for the arguments that have one.
+    pub fn beside(&self) -> bool {
+        let Item { op, a, b, .. } = self.item;
+        match op {
+            32..=43 => {
+                let (least, greatest) = RANGES[op as usize - 32];
+                a == greatest + 1 || a.checked_add(1) == Some(least)
+            }
+            130 | 132 => a == 1024,
+            131 => a == 1024 || b == 2,
+            139..=142 => a == 256,
+            143 | 145 => a == 2,
+            147 | 148 | 150 => a == 128,
+            _ => false,
+        }
+    }
+}
+
+pub type Rule = (&'static str, fn(&Seen) -> bool);
+
+/// A rule for each of some numbers: settings, bits, words.
+pub type NumberedRule = (&'static str, &'static [u32], fn(&Seen, u32) -> bool);
+
+/// Every call of the lists of a seed that finds and leaves a memory with its channel.
+pub fn for_each_call(seed: u64, with_changes: bool, mut meet: impl FnMut(&Seen)) {
+    for_each_answer(seed, with_changes, |_, _, seen| {
+        if let Some(seen) = seen {
+            meet(&seen);
+        }
+    });
+}
+
+/// Every call of the lists of a seed; with changes by others as `compare` runs them, else as `replay` does.
+pub fn for_each_answer(seed: u64, with_changes: bool, mut meet: impl FnMut(Item, &[u32], Option<Seen>)) {
+    let mut mem = vec![0; need(12)];
+    let mut calls = 0;
+    for list in lists(seed, LIST_CALLS) {
+        if with_changes {
+            mem = list.memory;
+        }
+        let mut lent = mem.len();
+        for event in list.events {
+            match event {
+                Event::Call(item) => {
+                    let before = Words::of(&mem[..lent], item);
+                    let Item { op, channel, a, b } = item;
+                    let answer = words::perform(&mut mem[..lent], op, channel, a, b);
+                    let after = Words::of(&mem[..lent], item);
+                    let seen =
+                        before.zip(after).map(|(before, after)| Seen { item, answer: answer.clone(), before, after });
+                    meet(item, &answer, seen);
+                    calls += 1;
+                    if calls == CALLS {
+                        return;
+                    }
+                }
+                Event::Overwrite { word, value } if with_changes => mem[word] = value,
+                Event::Lend { words } if with_changes => lent = words,
+                _ => {}
+            }
+        }
+    }
+}
+
+/// A rule and the least number of times that the lists must meet it: far below what they do, far above none.
+pub struct Row {
+    pub name: String,
+    pub least: u64,
+    pub met_by: Box<dyn Fn(&Seen) -> bool>,
+}
+
+pub fn rows(rules: &[Rule], least: u64) -> Vec<Row> {
+    rules.iter().map(|&(name, rule)| Row { name: name.to_string(), least, met_by: Box::new(rule) }).collect()
+}
+
+pub fn numbered_rows(rules: &[NumberedRule], least: u64) -> Vec<Row> {
+    let mut rows = vec![];
+    for &(name, numbers, rule) in rules {
+        for &number in numbers {
+            rows.push(Row {
+                name: format!("{name} {number}"),
+                least,
+                met_by: Box::new(move |seen| rule(seen, number)),
+            });
+        }
+    }
+    rows
+}
+
+/// Counts how often each rule is met, and fails with those that are met too seldom.
+pub fn check(with_changes: bool, rows: Vec<Row>) {
+    let mut counts = vec![0; rows.len()];
+    for_each_call(1, with_changes, |seen| {
+        for (row, count) in rows.iter().zip(&mut counts) {
+            *count += u64::from((row.met_by)(seen));
+        }
+    });
+    let mut seldom = vec![];
+    for (row, count) in rows.iter().zip(counts) {
+        println!("{count:>7} {}", row.name);
+        if count < row.least {
+            seldom.push(format!("{count} of {}: {}", row.least, row.name));
+        }
+    }
+    assert!(seldom.is_empty(), "met too seldom: {seldom:#?}");
+}
