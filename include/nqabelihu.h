@@ -41,6 +41,8 @@
  * |   2. let condition "full" latch by level (nqabelihu_write_level_mask with NQABELIHU_CONDITION_FULL): every call on the channel then    |
  * |      latches it for as long as the FIFO is full, and where its bit is 0 no word was lost since it was last cleared;                    |
  * |   3. look at every call's result: an arrival that was refused reached no FIFO.                                                         |
+ * | In mailbox mode the FIFO lists indices: what is lost there is an index, and the mailbox has the word. The outcome                      |
+ * | NQABELIHU_OUTCOME_ALREADY_LISTED loses no index; its word goes over one that was not read from the mailbox.                            |
  * +----------------------------------------------------------------------------------------------------------------------------------------+
  *
  * Time is the host's. A step of the transmitter does not advance the module's stamp: nqabelihu_output_bit_times says how long the step's output
@@ -180,13 +182,15 @@ typedef enum {
     NQABELIHU_TRANSMIT_MODE_SCHEDULED = 2
 } nqabelihu_transmit_mode;
 
-/* What became of an arriving word. In mailbox mode a mailbox has the word that was dropped, and its index is not listed. */
-#define NQABELIHU_OUTCOME_TABLE(ROW)                                                  \
-    ROW(NQABELIHU_OUTCOME_IGNORED, 0, "ignored: the receiver is off")                 \
-    ROW(NQABELIHU_OUTCOME_FILTERED, 1, "filtered: its index is not in the match set") \
-    ROW(NQABELIHU_OUTCOME_APPENDED, 2, "appended to the FIFO")                        \
-    ROW(NQABELIHU_OUTCOME_DROPPED, 3, "dropped: the bounded FIFO was full")           \
-    ROW(NQABELIHU_OUTCOME_OVERWRITING, 4, "appended to a full circular FIFO: the oldest is lost")
+/* What became of an arriving word. In mailbox mode a mailbox has the word that was dropped, not new, and its index is not listed; one whose
+ * mailbox is still new is not listed again, whether or not the list still has it: read the mailbox of every index that you read. */
+#define NQABELIHU_OUTCOME_TABLE(ROW)                                                              \
+    ROW(NQABELIHU_OUTCOME_IGNORED, 0, "ignored: the receiver is off")                             \
+    ROW(NQABELIHU_OUTCOME_FILTERED, 1, "filtered: its index is not in the match set")             \
+    ROW(NQABELIHU_OUTCOME_APPENDED, 2, "appended to the FIFO")                                    \
+    ROW(NQABELIHU_OUTCOME_DROPPED, 3, "dropped: the bounded FIFO was full")                       \
+    ROW(NQABELIHU_OUTCOME_OVERWRITING, 4, "appended to a full circular FIFO: the oldest is lost") \
+    ROW(NQABELIHU_OUTCOME_ALREADY_LISTED, 5, "already listed: its mailbox is still new")
 
 typedef enum { NQABELIHU_OUTCOME_TABLE(NQABELIHU_ROW_NAME) } nqabelihu_outcome;
 
@@ -799,6 +803,7 @@ typedef struct {
     uint32_t appended;
     uint32_t dropped;
     uint32_t overwriting;
+    uint32_t already_listed;
 } nqabelihu_tally;
 
 /* One arrival more, with its outcome. */
@@ -821,6 +826,9 @@ static inline void nqabelihu_tally_outcome(nqabelihu_tally *tally, nqabelihu_out
     case NQABELIHU_OUTCOME_OVERWRITING:
         tally->overwriting++;
         break;
+    case NQABELIHU_OUTCOME_ALREADY_LISTED:
+        tally->already_listed++;
+        break;
     default:
         break;
     }
@@ -838,11 +846,13 @@ static inline uint32_t nqabelihu_tally_lost(const nqabelihu_tally *tally)
     return tally->dropped + tally->overwriting;
 }
 
-/* 1 where offered = accepted + dropped + filtered + ignored, and accepted and overwritten are those of the channel's counts of fates; else 0. */
+/* 1 where offered = accepted + dropped + already listed + filtered + ignored, and accepted and overwritten are those of the channel's counts of
+ * fates; else 0. */
 NQABELIHU_LOOK static inline int nqabelihu_tally_agrees(const nqabelihu_tally *tally, const nqabelihu_counts *counts)
 {
     uint32_t accepted = nqabelihu_tally_accepted(tally);
-    return tally->offered == accepted + tally->dropped + tally->filtered + tally->ignored && accepted == counts->receive_accepted
+    uint32_t others = tally->dropped + tally->already_listed + tally->filtered + tally->ignored;
+    return tally->offered == accepted + others && accepted == counts->receive_accepted
            && tally->overwriting == counts->receive_overwritten;
 }
 

@@ -508,6 +508,98 @@ static void receiving(nqabelihu_memory m)
     CHECK(nqabelihu_read_receive_fifo(m, 1, &entry) == NQABELIHU_REFUSED_EMPTY, "cleared by the change of mode");
 }
 
+/* A mailbox, read: its status, word and stamp. */
+static void is_mailbox(nqabelihu_memory memory, uint32_t index, uint32_t status, uint32_t word, uint32_t stamp, int line)
+{
+    nqabelihu_entry entry;
+    DO(nqabelihu_read_mailbox(memory, 2, (nqabelihu_index){index}, &entry));
+    CHECK(entry.status == status && entry.word == word && entry.stamp == stamp, "mailbox of line %d: %u %u %u", line, (unsigned)entry.status,
+          (unsigned)entry.word, (unsigned)entry.stamp);
+}
+
+#define MAILBOX(index, status, word, stamp) is_mailbox(m, index, status, word, stamp, __LINE__)
+#define ARRIVES(word, outcome) CHECK(arrives(m, 2, word) == NQABELIHU_OUTCOME_##outcome, "arrival of line %d", __LINE__)
+
+/* The list of indices: one is appended only where its mailbox is not new. Of the words, 0x401 and 3 are parity errors. */
+static void listing(nqabelihu_memory m)
+{
+    nqabelihu_counts c;
+    nqabelihu_entry entry;
+    uint32_t level;
+    DO(nqabelihu_write_setting(m, 2, NQABELIHU_SETTING_RECEIVER, 1));
+    DO(nqabelihu_write_setting(m, 2, NQABELIHU_SETTING_STAMPS, 1));
+    DO(nqabelihu_write_setting(m, 2, NQABELIHU_SETTING_RECEIVE_MODE, NQABELIHU_RECEIVE_MODE_MAILBOX));
+    DO(nqabelihu_write_setting(m, 2, NQABELIHU_SETTING_RECEIVE_SIZE, 2));
+    DO(nqabelihu_advance_stamp(m, 7));
+    ARRIVES(1, APPENDED);
+    DO(nqabelihu_advance_stamp(m, 1));
+    latched(m, 2);
+    /* the newer word, in error, and its stamp; the list stays */
+    ARRIVES(0x401, ALREADY_LISTED);
+    CHECK(latched(m, 2) == NQABELIHU_CONDITION_PARITY_ERROR, "parity error of a word already listed");
+    DO(nqabelihu_read_receive_level(m, 2, &level));
+    CHECK(level == 1, "%u indices", (unsigned)level);
+    MAILBOX(1, NQABELIHU_ENTRY_NEW + NQABELIHU_ENTRY_PARITY_ERROR, 0x401, 8);
+    MAILBOX(1, NQABELIHU_ENTRY_PARITY_ERROR, 0x401, 8);
+    /* read, it is appended again, while the list still has its index */
+    ARRIVES(0xC01, APPENDED);
+    /* full and bounded: lost, its mailbox has the word with no mark, and so the next is lost as well; one already listed is not */
+    ARRIVES(3, DROPPED);
+    ARRIVES(2, DROPPED);
+    ARRIVES(1, ALREADY_LISTED);
+    ARRIVES(3, DROPPED);
+    MAILBOX(2, 0, 2, 8);
+    MAILBOX(3, NQABELIHU_ENTRY_PARITY_ERROR, 3, 8);
+    /* full and circular: the mailbox of the oldest, 1, loses its mark */
+    DO(nqabelihu_write_setting(m, 2, NQABELIHU_SETTING_FIFO_KIND, NQABELIHU_FIFO_KIND_CIRCULAR));
+    ARRIVES(2, OVERWRITING);
+    ARRIVES(2, ALREADY_LISTED);
+    MAILBOX(1, 0, 1, 8);
+    /* one whose own index is the oldest: its mark is taken, and then set */
+    ARRIVES(1, OVERWRITING);
+    MAILBOX(2, NQABELIHU_ENTRY_NEW, 2, 8);
+    ARRIVES(2, OVERWRITING);
+    MAILBOX(2, NQABELIHU_ENTRY_NEW, 2, 8);
+    MAILBOX(1, NQABELIHU_ENTRY_NEW, 1, 8);
+    ARRIVES(1, OVERWRITING);
+    MAILBOX(1, NQABELIHU_ENTRY_NEW, 1, 8);
+    MAILBOX(2, 0, 2, 8);
+    /* taken from the list and its mailbox not read: already listed, though the list is empty */
+    ARRIVES(3, OVERWRITING);
+    DO(nqabelihu_read_receive_fifo(m, 2, &entry));
+    CHECK(entry.status == 0 && entry.word == 1 && entry.stamp == 0, "index of the list");
+    DO(nqabelihu_read_receive_fifo(m, 2, &entry));
+    CHECK(entry.word == 3, "the newest index");
+    ARRIVES(3, ALREADY_LISTED);
+    CHECK(nqabelihu_read_receive_fifo(m, 2, &entry) == NQABELIHU_REFUSED_EMPTY, "an empty list");
+    MAILBOX(3, NQABELIHU_ENTRY_NEW + NQABELIHU_ENTRY_PARITY_ERROR, 3, 8);
+    /* cleared by a test, a change of mode and a reset: each entry's mailbox loses its mark, and those of no entry keep theirs */
+    ARRIVES(1, APPENDED);
+    DO(nqabelihu_read_receive_fifo(m, 2, &entry));
+    ARRIVES(3, APPENDED);
+    ARRIVES(2, APPENDED);
+    DO(nqabelihu_initiate_test(m, 2, 0));
+    MAILBOX(3, NQABELIHU_ENTRY_PARITY_ERROR, 3, 8);
+    MAILBOX(2, 0, 2, 8);
+    MAILBOX(1, NQABELIHU_ENTRY_NEW, 1, 8);
+    ARRIVES(1, APPENDED);
+    DO(nqabelihu_write_setting(m, 2, NQABELIHU_SETTING_RECEIVE_MODE, NQABELIHU_RECEIVE_MODE_MAILBOX));
+    ARRIVES(1, ALREADY_LISTED);
+    DO(nqabelihu_write_setting(m, 2, NQABELIHU_SETTING_RECEIVE_MODE, NQABELIHU_RECEIVE_MODE_FIFO));
+    ARRIVES(1, APPENDED);
+    /* in FIFO mode an entry has no mailbox: clearing the word 3 leaves the mark of mailbox 3 */
+    DO(nqabelihu_write_setting(m, 2, NQABELIHU_SETTING_RECEIVE_MODE, NQABELIHU_RECEIVE_MODE_MAILBOX));
+    MAILBOX(1, 0, 1, 8);
+    ARRIVES(3, APPENDED);
+    DO(nqabelihu_read_receive_fifo(m, 2, &entry));
+    DO(nqabelihu_write_setting(m, 2, NQABELIHU_SETTING_RECEIVE_MODE, NQABELIHU_RECEIVE_MODE_FIFO));
+    ARRIVES(3, APPENDED);
+    DO(nqabelihu_initiate_test(m, 2, 0));
+    MAILBOX(3, NQABELIHU_ENTRY_NEW + NQABELIHU_ENTRY_PARITY_ERROR, 3, 8);
+    DO(nqabelihu_read_counts(m, 2, &c));
+    CHECK(c.receive_accepted == c.receive_read + c.receive_cleared + c.receive_overwritten && c.receive_overwritten == 5, "fates of indices");
+}
+
 static void is_output(nqabelihu_output o, uint32_t form, uint32_t x, uint32_t y, uint32_t z, int line)
 {
     CHECK(o.form == form && o.x == x && o.y == y && o.z == z, "output of line %d: %u %u %u %u", line, (unsigned)o.form, (unsigned)o.x,
@@ -628,6 +720,7 @@ static void meanings(void)
     uint32_t *words = between_guards(NQABELIHU_WORDS(COUNT), AT_END);
     answers(fresh(words));
     receiving(fresh(words));
+    listing(fresh(words));
     transmitting(fresh(words));
     fates(fresh(words));
     many_failures(fresh(words));

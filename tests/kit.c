@@ -71,7 +71,8 @@ static const row outcomes[] = {{0, "ignored: the receiver is off"},
                                {1, "filtered: its index is not in the match set"},
                                {2, "appended to the FIFO"},
                                {3, "dropped: the bounded FIFO was full"},
-                               {4, "appended to a full circular FIFO: the oldest is lost"}};
+                               {4, "appended to a full circular FIFO: the oldest is lost"},
+                               {5, "already listed: its mailbox is still new"}};
 static const row forms[] = {{0, "quiet"},
                             {1, "a word of the FIFO and the gap behind it"},
                             {2, "a word of the schedule, no gap"},
@@ -194,7 +195,7 @@ static nqabelihu_outcome arrives(uint32_t channel, uint32_t word, nqabelihu_tall
 static void drain(void)
 {
     nqabelihu_entry entries[8];
-    nqabelihu_tally tally = {0, 0, 0, 0, 0, 0};
+    nqabelihu_tally tally = {0, 0, 0, 0, 0, 0, 0};
     size_t count, room, at;
     uint32_t next = 0;
     DO(nqabelihu_power_up(m, 2));
@@ -222,7 +223,7 @@ static void drain(void)
 /* Two in a bounded FIFO of two, then losses: by outcome, by the tally, and by condition "full" by level, where the edge is silent. */
 static void losses(void)
 {
-    nqabelihu_tally bounded = {0, 0, 0, 0, 0, 0}, circular = {0, 0, 0, 0, 0, 0};
+    nqabelihu_tally bounded = {0, 0, 0, 0, 0, 0, 0}, circular = {0, 0, 0, 0, 0, 0, 0};
     nqabelihu_counts counts;
     uint32_t status, turn;
     DO(nqabelihu_power_up(m, 2));
@@ -259,10 +260,39 @@ static void losses(void)
     CHECK((status & NQABELIHU_CONDITION_FULL) != 0, "by level the status tells that the FIFO is full");
 }
 
+/* A fast label in mailbox mode: its index is listed once until its mailbox is read, and every arrival has its place in the tally. */
+static void floods(void)
+{
+    nqabelihu_tally tally = {0, 0, 0, 0, 0, 0, 0};
+    nqabelihu_counts counts;
+    nqabelihu_entry entries[8], mailbox;
+    uint32_t turn;
+    size_t count;
+    DO(nqabelihu_power_up(m, 2));
+    DO(nqabelihu_write_setting(m, 1, NQABELIHU_SETTING_RECEIVER, 1));
+    DO(nqabelihu_write_setting(m, 1, NQABELIHU_SETTING_RECEIVE_MODE, NQABELIHU_RECEIVE_MODE_MAILBOX));
+    for (turn = 0; turn < 300; turn++)
+        CHECK(arrives(1, 0x12B + 1024 * turn, &tally) == (turn == 0 ? NQABELIHU_OUTCOME_APPENDED : NQABELIHU_OUTCOME_ALREADY_LISTED), "arrival %u",
+              (unsigned)turn);
+    CHECK(arrives(1, 0x0B0, &tally) == NQABELIHU_OUTCOME_APPENDED, "a slow label");
+    CHECK(tally.offered == 301 && tally.already_listed == 299, "%u already listed", (unsigned)tally.already_listed);
+    CHECK(nqabelihu_tally_accepted(&tally) == 2 && nqabelihu_tally_lost(&tally) == 0, "an arrival already listed is not accepted, and no index is lost");
+    DO(nqabelihu_read_counts(m, 1, &counts));
+    CHECK(nqabelihu_tally_agrees(&tally, &counts) == 1, "tally of a flood");
+    DO(nqabelihu_drain_receive_fifo(m, 1, entries, 8, &count));
+    CHECK(count == 2 && entries[0].word == 0x12B && entries[1].word == 0x0B0, "%u indices listed", (unsigned)count);
+    DO(nqabelihu_read_mailbox(m, 1, nqabelihu_at_word(entries[0].word), &mailbox));
+    CHECK(mailbox.word == 0x12B + 1024 * 299, "the last word of the fast label");
+    CHECK(arrives(1, 0x12B, &tally) == NQABELIHU_OUTCOME_APPENDED && arrives(1, 0x0B0, &tally) == NQABELIHU_OUTCOME_ALREADY_LISTED,
+          "with the mailbox read and not read");
+    DO(nqabelihu_read_counts(m, 1, &counts));
+    CHECK(nqabelihu_tally_agrees(&tally, &counts) == 1, "tally behind a flood");
+}
+
 /* By level: where condition "full" is not latched, no word was lost since it was last cleared. */
 static void losses_by_level(uint32_t kind)
 {
-    nqabelihu_tally tally = {0, 0, 0, 0, 0, 0};
+    nqabelihu_tally tally = {0, 0, 0, 0, 0, 0, 0};
     nqabelihu_entry entries[2];
     uint32_t status, turn, lost = 0, silent = 0, told = 0;
     size_t count;
@@ -354,6 +384,7 @@ void kit(void)
     outputs();
     drain();
     losses();
+    floods();
     losses_by_level(NQABELIHU_FIFO_KIND_BOUNDED);
     losses_by_level(NQABELIHU_FIFO_KIND_CIRCULAR);
     exchanged();

@@ -67,6 +67,9 @@ pub fn kinds(channels: u32) -> Vec<Kind> {
     .concat();
     let small = [each(n, WRITE_RECEIVE_SIZE, 8, 0), each(n, WRITE_ALMOST_FULL, 6, 0)].concat();
     let filled: Vec<Item> = (0..8).flat_map(|k| each(n, ARRIVAL, word(k), 0)).collect();
+    let mailbox_mode = each(n, WRITE_RECEIVE_MODE, 1, 0);
+    // A list of indices at its greatest size: no two of these words have the same index.
+    let full: Vec<Item> = (0..255).flat_map(|k| each(n, ARRIVAL, word(k), 0)).collect();
     let matched: Vec<Item> = (0..1024).step_by(2).flat_map(|k| each(n, MATCH_WRITE, k, 1)).collect();
     let mut kinds = vec![
         kind("arrival, appended", &[&receiver], cleared.clone(), round(n, ARRIVAL, word)),
@@ -90,20 +93,17 @@ pub fn kinds(channels: u32) -> Vec<Kind> {
             round(n, ARRIVAL, word),
         ),
         kind("arrival, ignored", &[], vec![], round(n, ARRIVAL, word)),
+        kind("arrival, mailbox mode", &[&receiver, &mailbox_mode], cleared.clone(), round(n, ARRIVAL, word)),
         kind(
-            "arrival, mailbox mode",
-            &[&receiver, &each(n, WRITE_RECEIVE_MODE, 1, 0)],
-            cleared.clone(),
+            "arrival, mailbox mode, already listed",
+            &[&receiver, &mailbox_mode, &round(n, ARRIVAL, word)],
+            vec![],
             round(n, ARRIVAL, word),
         ),
+        kind("initiated test of 255 indices", &[&receiver, &mailbox_mode], full, cleared.clone()),
         kind("receive FIFO read", &[&receiver], round(n, ARRIVAL, word), round(n, FIFO_READ, |_| 0)),
         kind("receive FIFO read, empty", &[&receiver], vec![], round(n, FIFO_READ, |_| 0)),
-        kind(
-            "mailbox read",
-            &[&receiver, &each(n, WRITE_RECEIVE_MODE, 1, 0)],
-            vec![],
-            round(n, MAILBOX_READ, |k| word(k) % 1024),
-        ),
+        kind("mailbox read", &[&receiver, &mailbox_mode], vec![], round(n, MAILBOX_READ, |k| word(k) % 1024)),
         kind("transmit FIFO write", &[], cleared.clone(), round(n, FIFO_WRITE, word)),
         kind("step, immediate", &[&transmitter], round(n, FIFO_WRITE, word), round(n, STEP, |_| 0)),
         kind("step, schedule", &[&transmitter, &schedule], vec![], round(n, STEP, |_| 0)),

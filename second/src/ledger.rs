@@ -235,14 +235,18 @@ impl Book {
                 self.receive.clear(at);
                 self.transmit.clear(at);
             }
-            Call::Arrival { word } => {
-                if values[0] == 4 {
+            Call::Arrival { word } => match values[0] {
+                2 => self.receive.accept(at, self.entry(word, stamp)),
+                4 => {
                     self.receive.remove(at, Fate::Overwritten)?;
-                }
-                if values[0] == 2 || values[0] == 4 {
                     self.receive.accept(at, self.entry(word, stamp));
                 }
-            }
+                // Ignored, filtered, dropped: not accepted.
+                0 | 1 | 3 => {}
+                // Already listed: an index not appended is not accepted.
+                5 if self.settings[RECEIVE_MODE] == 1 => {}
+                outcome => return Err(format!("an arrival with outcome {outcome}")),
+            },
             Call::ReadFifo => {
                 let entry = self.receive.remove(at, Fate::Taken)?;
                 same("receive FIFO read", &entry[..], values)?;

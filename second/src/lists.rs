@@ -6,6 +6,7 @@
 //! Between single calls stand runs: calls in an order that leads to a rule which single calls meet seldom.
 //! `tests/reached.rs` counts how often each such rule is met.
 
+mod floods;
 mod no_gap;
 
 use crate::calls::Item;
@@ -479,9 +480,10 @@ impl Writer {
         match (group, self.dice.below(100)) {
             (_, 0 | 1) => self.burst(channel),
             (0, 2) => self.full_receive_fifo(channel),
-            (0, 3..=31) => self.small_receive_fifo(channel),
-            (0, 32..=56) => self.held_entries(channel),
-            (0, 57..=77) => self.mailboxes(channel),
+            (0, 3..=22) => self.small_receive_fifo(channel),
+            (0, 23..=40) => self.held_entries(channel),
+            (0, 41..=54) => self.mailboxes(channel),
+            (0, 55..=84) => self.floods(channel),
             (0, _) => self.stamps(channel),
             (1, 2..=4) => self.full_transmit_fifo(channel),
             (1, _) => self.states(channel),
@@ -629,10 +631,14 @@ impl Writer {
             self.loose(SETTING_WRITE + setting, channel, value);
         }
         self.mode_and_kind(channel);
-        self.arrivals(channel, 255);
-        for _ in 0..20 {
-            self.arrivals(channel, 3);
-            self.loose(FIFO_READ, channel, 0);
+        // One index after the other, so that none is listed already.
+        let mut word = self.dice.word();
+        for place in 0..315 {
+            word = word.wrapping_add(1);
+            self.loose(ARRIVAL, channel, word);
+            if place > 255 && place % 3 == 0 {
+                self.loose(FIFO_READ, channel, 0);
+            }
         }
         if self.dice.chance(25) {
             for _ in 0..255 {
@@ -698,7 +704,7 @@ impl Writer {
         }
     }
 
-    /// Mailbox mode: arrivals, each mailbox read at once and again, and one read in FIFO mode.
+    /// Mailbox mode: arrivals, each mailbox read at once and again, and one read in FIFO mode, new or not.
     fn mailboxes(&mut self, channel: u32) {
         self.open_receiver(channel);
         self.loose(WRITE_PARITY, channel, 1);
@@ -712,6 +718,12 @@ impl Writer {
         }
         let word = self.data_word();
         self.loose(ARRIVAL, channel, word);
+        // An index that is read from the list leaves the mark when the mode changes.
+        if self.dice.chance(70) {
+            for _ in 0..5 {
+                self.loose(FIFO_READ, channel, 0);
+            }
+        }
         self.loose(WRITE_RECEIVE_MODE, channel, 0);
         self.loose(MAILBOX_READ, channel, word % 1024);
     }
@@ -1098,7 +1110,8 @@ impl Writer {
                 self.overwrite(first + SIZE, 255);
             }
             11 => self.mark_set_by_others(channel),
-            12..=18 => self.outside_its_range(channel),
+            12 | 13 => self.list_of_others(channel),
+            14..=18 => self.outside_its_range(channel),
             _ => {
                 let (word, value) = (self.dice.below(self.memory.len() as u32), self.dice.word());
                 self.overwrite(word as usize, value);

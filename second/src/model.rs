@@ -163,6 +163,16 @@ impl Entry {
     fn shown(self) -> Vec<u32> {
         vec![self.status & 3, self.word, self.stamp]
     }
+
+    /// D1: a word that was not read yet.
+    fn is_new(self) -> bool {
+        self.status & 2 != 0
+    }
+
+    /// Of the stored status only D0 stays.
+    fn lose_mark(&mut self) {
+        self.status &= 1;
+    }
 }
 
 /// Fate counts; each rolls over.
@@ -212,6 +222,30 @@ pub struct Channel {
     pub match_set: Vec<bool>,
     pub message: Vec<u32>,
     pub schedule: Vec<u32>,
+}
+
+/// What happened to an entry that was to be appended.
+enum Appending {
+    Appended,
+    Dropped,
+    Overwriting { oldest: Entry },
+    AlreadyListed,
+}
+
+/// Outcomes of an arrival that reaches no FIFO and no mailbox.
+const IGNORED: u32 = 0;
+const FILTERED: u32 = 1;
+
+impl Appending {
+    /// The arrival's outcome.
+    fn outcome(&self) -> u32 {
+        match self {
+            Appending::Appended => 2,
+            Appending::Dropped => 3,
+            Appending::Overwriting { .. } => 4,
+            Appending::AlreadyListed => 5,
+        }
+    }
 }
 
 /// What a step puts on the line.
@@ -292,7 +326,13 @@ impl Channel {
         }
     }
 
+    /// In mailbox mode each index cleared takes the new mark from its mailbox.
     fn clear_receive(&mut self) {
+        if self.settings.receive_mode == ReceiveMode::Mailbox {
+            for entry in &self.receive {
+                self.mailboxes[entry.word as usize % 1024].lose_mark();
+            }
+        }
         count(&mut self.counts.receive_cleared, self.receive.len());
         self.receive.clear();
     }
@@ -307,7 +347,7 @@ impl Channel {
         self.command = 0;
     }
 
-    /// Module reset: memories, match set, mailboxes and counts stay.
+    /// Module reset: memories, match set, counts and, but for the marks of listed ones, mailboxes stay.
     fn reset(&mut self) {
         self.clear_receive();
         self.clear_transmit();
@@ -353,10 +393,10 @@ impl Channel {
         if written.size < self.receive.len() as u32 {
             return Err(MODE);
         }
-        let held = std::mem::replace(&mut self.settings, written);
-        if held.receive_mode != self.settings.receive_mode {
+        if written.receive_mode != self.settings.receive_mode {
             self.clear_receive();
         }
+        let held = std::mem::replace(&mut self.settings, written);
         let turned_off = setting == 1 && value == 0;
         if held.transmit_mode != self.settings.transmit_mode || turned_off {
             self.idle_at_command_0();
@@ -366,46 +406,66 @@ impl Channel {
         Ok(())
     }
 
-    /// Appends under the full rule; gives the outcome's number.
-    fn append(&mut self, entry: Entry) -> u32 {
+    /// Appends under the full rule.
+    fn append(&mut self, entry: Entry) -> Appending {
         let full = self.receive.len() as u32 == self.settings.size;
         if full && self.settings.fifo_kind == FifoKind::Bounded {
-            return 3;
+            return Appending::Dropped;
         }
         count(&mut self.counts.received, 1);
-        if full {
-            self.receive.pop_front();
-            count(&mut self.counts.overwritten, 1);
-        }
+        let oldest = if full { self.receive.pop_front() } else { None };
         self.receive.push_back(entry);
-        if full {
-            4
-        } else {
-            2
+        match oldest {
+            Some(oldest) => {
+                count(&mut self.counts.overwritten, 1);
+                Appending::Overwriting { oldest }
+            }
+            None => Appending::Appended,
         }
     }
 
+    /// Lists an index, but not where its mailbox still has the new mark.
+    fn list(&mut self, index: u32) -> Appending {
+        if self.mailboxes[index as usize].is_new() {
+            return Appending::AlreadyListed;
+        }
+        self.append(Entry { status: 0, word: index, stamp: 0 })
+    }
+
+    /// Gives the outcome's number.
     fn arrival(&mut self, word: u32, stamp: u32, signals: &mut Signals) -> u32 {
         let index = word % 1024;
         if !self.settings.receiver {
-            return 0;
+            return IGNORED;
         }
         if self.settings.matching && !self.match_set[index as usize] {
-            return 1;
+            return FILTERED;
         }
         let error = self.settings.parity && in_error(word);
         let stamp = if self.settings.stamps { stamp } else { 0 };
         match self.settings.receive_mode {
             ReceiveMode::Fifo => {
-                let outcome = self.append(Entry { status: error.into(), word, stamp });
-                signals.parity_error = error && outcome != 3;
-                outcome
+                let appending = self.append(Entry { status: error.into(), word, stamp });
+                signals.parity_error = error && !matches!(appending, Appending::Dropped);
+                appending.outcome()
             }
             ReceiveMode::Mailbox => {
-                let status = if error { 3 } else { 2 };
+                let appending = self.list(index);
+                let new = match appending {
+                    Appending::Appended => true,
+                    // An index that is lost leaves its mark clear.
+                    Appending::Dropped => false,
+                    Appending::Overwriting { oldest } => {
+                        self.mailboxes[oldest.word as usize % 1024].lose_mark();
+                        true
+                    }
+                    // The mark that it had.
+                    Appending::AlreadyListed => true,
+                };
+                let status = u32::from(error) + 2 * u32::from(new);
                 self.mailboxes[index as usize] = Entry { status, word, stamp };
                 signals.parity_error = error;
-                self.append(Entry { status: 0, word: index, stamp: 0 })
+                appending.outcome()
             }
         }
     }
@@ -531,7 +591,7 @@ impl Channel {
             Call::ReadMailbox { index } => {
                 let mailbox = &mut self.mailboxes[index_of(index)?];
                 let shown = mailbox.shown();
-                mailbox.status &= 1;
+                mailbox.lose_mark();
                 shown
             }
             Call::WriteMatch { index, mark } => {

@@ -171,7 +171,7 @@ fn power_up(mem: &mut [u32], count: u32) {
     }
 }
 
-/// The rule is not run; match sets, mailboxes, both RAMs, counts and the rings' slots stay.
+/// The rule is not run; match sets, mailboxes but for the marks of listed ones, both RAMs, counts and the rings' slots stay.
 fn module_reset(mem: &mut [u32]) {
     mem[STAMP] = 0;
     mem[RESOLUTION] = 0;
@@ -179,7 +179,7 @@ fn module_reset(mem: &mut [u32]) {
     mem[COUNTERS..COUNTERS + 12].fill(0);
     for c in 1..=mem[COUNT] {
         let ch = &mut mem[block(c)..][..BLOCK_WORDS];
-        clear(ch, RECEIVE_LEVEL, RECEIVE_CLEARED);
+        clear_receive(ch);
         clear(ch, TRANSMIT_LEVEL, TRANSMIT_CLEARED);
         ch[..12].copy_from_slice(&FACTORY);
         for word in [STATE, COMMAND, ASYNC_MARK, LATCH, ENABLE, LEVEL_MASK, WORD_MARK] {
@@ -276,7 +276,7 @@ fn on_block(ch: &mut [u32], stamp: u32, op: u32, a: u32, b: u32, answer: &mut Ve
         MAILBOX_READ => {
             let status = MAILBOXES + 3 * at;
             answer.extend([ch[status] % 4, ch[status + 1], ch[status + 2]]);
-            ch[status] %= 2;
+            take_mark(ch, a);
         }
         MATCH_WRITE => {
             let bit = 1 << (a % 32);
@@ -307,7 +307,7 @@ fn on_block(ch: &mut [u32], stamp: u32, op: u32, a: u32, b: u32, answer: &mut Ve
         MESSAGE_WRITE => ch[MESSAGE_RAM + at] = b,
         MESSAGE_READ => answer.push(ch[MESSAGE_RAM + at]),
         INITIATED_TEST => {
-            clear(ch, RECEIVE_LEVEL, RECEIVE_CLEARED);
+            clear_receive(ch);
             clear(ch, TRANSMIT_LEVEL, TRANSMIT_CLEARED);
             idle(ch);
             ch[WORD_MARK] = 0;
@@ -347,9 +347,12 @@ fn idle(ch: &mut [u32]) {
 
 fn write_setting(ch: &mut [u32], setting: usize, value: u32) {
     let change = ch[setting] != value;
+    if setting == RECEIVE_MODE && change {
+        // By the mode before the call.
+        clear_receive(ch);
+    }
     ch[setting] = value;
     match setting {
-        RECEIVE_MODE if change => clear(ch, RECEIVE_LEVEL, RECEIVE_CLEARED),
         TRANSMIT_MODE if change => start_anew(ch),
         // Also when it is off.
         TRANSMITTER if value == 0 => start_anew(ch),
@@ -378,22 +381,55 @@ fn arrival(ch: &mut [u32], stamp: u32, word: u32, answer: &mut Vec<u32>) -> u32 
     }
     let error = ch[PARITY] * u32::from(even(word));
     let stamp = ch[STAMPS] * stamp;
-    let mailbox_mode = ch[RECEIVE_MODE] == 1;
-    let entry = if mailbox_mode {
-        let mailbox = MAILBOXES + 3 * index as usize;
-        ch[mailbox..mailbox + 3].copy_from_slice(&[2 + error, word, stamp]);
-        [0, index, 0]
+    // Signalled only for a word that entered a FIFO or a mailbox, which every word does in mailbox mode.
+    let (outcome, entered) = if ch[RECEIVE_MODE] == 1 {
+        (to_mailbox(ch, index, [error, word, stamp]), true)
     } else {
-        [error, word, stamp]
+        let outcome = append(ch, [error, word, stamp]);
+        (outcome, outcome != 3)
     };
-    let outcome = append(ch, entry);
     answer.push(outcome);
-    // Signalled only for a word that entered a FIFO or a mailbox.
-    if error == 1 && (mailbox_mode || outcome != 3) {
+    if error == 1 && entered {
         PARITY_ERROR
     } else {
         0
     }
+}
+
+/// The word goes into the mailbox of its index, and the index into the list unless the mailbox still has the new mark.
+fn to_mailbox(ch: &mut [u32], index: u32, [error, word, stamp]: [u32; 3]) -> u32 {
+    let mailbox = MAILBOXES + 3 * index as usize;
+    let listed = ch[mailbox] / 2 % 2 == 1;
+    let full = ch[RECEIVE_LEVEL] == ch[SIZE];
+    // An index that is lost leaves its mark clear.
+    let lost = !listed && full && ch[FIFO_KIND] == 0;
+    if !listed && full && !lost {
+        let oldest = RECEIVE_RING + 3 * ch[RECEIVE_POSITION] as usize;
+        take_mark(ch, ch[oldest + 1]);
+    }
+    let mark = if lost { 0 } else { 2 };
+    ch[mailbox..mailbox + 3].copy_from_slice(&[mark + error, word, stamp]);
+    if listed {
+        5
+    } else {
+        append(ch, [0, index, 0])
+    }
+}
+
+/// The mailbox at a word modulo 1024 loses its new mark: of the stored status only D0 stays.
+fn take_mark(ch: &mut [u32], word: u32) {
+    ch[MAILBOXES + 3 * (word as usize % INDEXES)] %= 2;
+}
+
+/// The receive FIFO is cleared; in mailbox mode each entry first takes the mark from its mailbox.
+fn clear_receive(ch: &mut [u32]) {
+    if ch[RECEIVE_MODE] == 1 {
+        for k in 0..ch[RECEIVE_LEVEL] {
+            let slot = (ch[RECEIVE_POSITION] + k) as usize % SLOTS;
+            take_mark(ch, ch[RECEIVE_RING + 3 * slot + 1]);
+        }
+    }
+    clear(ch, RECEIVE_LEVEL, RECEIVE_CLEARED);
 }
 
 /// Held at size: bounded drops the arrival, circular overwrites the oldest.

@@ -47,6 +47,7 @@ fn may_write(before: &[u32], word: usize, item: Item) -> bool {
     }
     let of_channel = ((word - MODULE_WORDS) / BLOCK_WORDS) as u32 + 1;
     let offset = (word - MODULE_WORDS) % BLOCK_WORDS;
+    let ch = &before[block(of_channel)..][..BLOCK_WORDS];
     if op >= 32 && of_channel != channel {
         return false;
     }
@@ -55,33 +56,34 @@ fn may_write(before: &[u32], word: usize, item: Item) -> bool {
             offset <= RECEIVE_LEVEL
                 || [RECEIVE_CLEARED, TRANSMIT_LEVEL, TRANSMIT_CLEARED].contains(&offset)
                 || (STATE..=WORD_MARK).contains(&offset)
+                || of_listed(ch, offset)
         }
         _ if offset == LATCH => ![5, 7, 9].contains(&op),
         32..=43 => {
             offset == op as usize - 32
-                || (op == 37 && [RECEIVE_LEVEL, RECEIVE_CLEARED].contains(&offset))
+                || (op == 37 && ([RECEIVE_LEVEL, RECEIVE_CLEARED].contains(&offset) || of_listed(ch, offset)))
                 || ([33, 39].contains(&op) && [STATE, COMMAND, ASYNC_MARK, WORD_MARK].contains(&offset))
         }
         128 => {
-            let block = &before[block(channel)..];
-            let slot = (block[RECEIVE_POSITION] + block[RECEIVE_LEVEL]) as usize % SLOTS;
+            let slot = (ch[RECEIVE_POSITION] + ch[RECEIVE_LEVEL]) as usize % SLOTS;
             let mailbox = MAILBOXES + 3 * (a as usize % 1024);
+            let full = ch[RECEIVE_LEVEL] == ch[SIZE];
             (RECEIVE_RING + 3 * slot..RECEIVE_RING + 3 * slot + 3).contains(&offset)
                 || [RECEIVE_LEVEL, RECEIVE_POSITION, RECEIVE_ACCEPTED, RECEIVE_OVERWRITTEN].contains(&offset)
-                || (block[RECEIVE_MODE] == 1 && (mailbox..mailbox + 3).contains(&offset))
+                || (ch[RECEIVE_MODE] == 1 && (mailbox..mailbox + 3).contains(&offset))
+                || (ch[RECEIVE_MODE] == 1 && full && offset == status_of_entry(ch, 0))
         }
         129 => [RECEIVE_LEVEL, RECEIVE_POSITION, RECEIVE_READ].contains(&offset),
         130 => offset == MAILBOXES + 3 * a as usize,
         131 => offset == MATCH_SET + a as usize / 32,
         133 => {
-            let block = &before[block(channel)..];
-            let slot = (block[TRANSMIT_POSITION] + block[TRANSMIT_LEVEL]) as usize % SLOTS;
+            let slot = (ch[TRANSMIT_POSITION] + ch[TRANSMIT_LEVEL]) as usize % SLOTS;
             [TRANSMIT_RING + slot, TRANSMIT_LEVEL, TRANSMIT_ACCEPTED].contains(&offset)
         }
         134 => [ASYNC_MARK, ASYNC_WORD].contains(&offset),
         135 | 136 => offset == STATE,
         137 => [STATE, COMMAND].contains(&offset),
-        138 => match before[block(channel) + TRANSMIT_MODE] {
+        138 => match ch[TRANSMIT_MODE] {
             2 => [STATE, COMMAND, ASYNC_MARK, WORD_MARK].contains(&offset),
             1 => [TRANSMIT_LEVEL, TRANSMIT_POSITION, TRANSMIT_SENT, STATE].contains(&offset),
             _ => [TRANSMIT_LEVEL, TRANSMIT_POSITION, TRANSMIT_SENT].contains(&offset),
@@ -90,10 +92,21 @@ fn may_write(before: &[u32], word: usize, item: Item) -> bool {
         141 => offset == MESSAGE_RAM + a as usize,
         145 => {
             let cleared = [RECEIVE_LEVEL, RECEIVE_CLEARED, TRANSMIT_LEVEL, TRANSMIT_CLEARED];
-            cleared.contains(&offset) || [STATE, COMMAND, WORD_MARK].contains(&offset)
+            cleared.contains(&offset) || [STATE, COMMAND, WORD_MARK].contains(&offset) || of_listed(ch, offset)
         }
         148 => offset == ENABLE,
         150 => offset == LEVEL_MASK,
         _ => false,
     }
+}
+
+/// The status word of the mailbox that entry k of the receive FIFO names.
+fn status_of_entry(ch: &[u32], k: usize) -> usize {
+    let slot = (ch[RECEIVE_POSITION] as usize + k) % SLOTS;
+    MAILBOXES + 3 * (ch[RECEIVE_RING + 3 * slot + 1] as usize % INDEXES)
+}
+
+/// The status word of a mailbox whose index is held in mailbox mode.
+fn of_listed(ch: &[u32], offset: usize) -> bool {
+    ch[RECEIVE_MODE] == 1 && (0..ch[RECEIVE_LEVEL] as usize).any(|k| offset == status_of_entry(ch, k))
 }

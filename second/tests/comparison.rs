@@ -15,7 +15,7 @@ fn model_and_words_agree() {
     assert!(tally.accepted * 2 > tally.calls);
     // Every refusal, outcome and form comes up.
     assert_eq!(tally.numbers.keys().copied().collect::<Vec<_>>(), [0, 1, 2, 3, 4, 5, 6, 7, 42]);
-    assert_eq!(tally.outcomes.len(), 5);
+    assert_eq!(tally.outcomes.len(), 6);
     assert_eq!(tally.forms.len(), 7);
 }
 
@@ -141,6 +141,98 @@ fn two_words_with_no_gap_are_found() {
     found(|_, _, op, _, _, answer| {
         if op == 138 && answer[..2] == [0, 6] {
             *answer = vec![0, 2, answer[3], 0, 0];
+        }
+    });
+}
+
+/// The status word of a mailbox of channel `channel`, by a word modulo 1024.
+fn mailbox(channel: u32, word: u32) -> usize {
+    block(channel) + MAILBOXES + 3 * (word as usize % 1024)
+}
+
+/// The word of the oldest entry of a channel's receive FIFO.
+fn oldest(mem: &[u32], channel: u32) -> u32 {
+    let ch = &mem[block(channel)..];
+    ch[RECEIVE_RING + 3 * ch[RECEIVE_POSITION] as usize + 1]
+}
+
+fn mailboxes_as_before(mem: &mut [u32], before: &[u32], channel: u32) {
+    let all = mailbox(channel, 0)..block(channel) + MATCH_SET;
+    mem[all.clone()].copy_from_slice(&before[all]);
+}
+
+/// An arrival in mailbox mode with this outcome.
+fn mailbox_arrival(before: &[u32], op: u32, channel: u32, answer: &[u32], outcome: u32) -> bool {
+    op == 128 && *answer == [0, outcome] && before[block(channel) + RECEIVE_MODE] == 1
+}
+
+#[test]
+fn a_new_mark_taken_or_left_where_it_must_not_be_is_found() {
+    // The oldest keeps its mark.
+    found(|mem, before, op, channel, a, answer| {
+        let listed = mailbox_arrival(before, op, channel, answer, 4);
+        if listed && oldest(before, channel) % 1024 != a % 1024 {
+            let status = mailbox(channel, oldest(before, channel));
+            mem[status] = before[status];
+        }
+    });
+    // The mark is taken behind the arrival, so that an index that overwrites itself has none.
+    found(|mem, before, op, channel, _, answer| {
+        if mailbox_arrival(before, op, channel, answer, 4) {
+            mem[mailbox(channel, oldest(before, channel))] %= 2;
+        }
+    });
+    // An index that is lost leaves its mark.
+    found(|mem, before, op, channel, a, answer| {
+        if mailbox_arrival(before, op, channel, answer, 3) {
+            mem[mailbox(channel, a)] += 2;
+        }
+    });
+    // The mailbox of an already listed index keeps the first word.
+    found(|mem, before, op, channel, a, answer| {
+        if mailbox_arrival(before, op, channel, answer, 5) {
+            let word = mailbox(channel, a) + 1;
+            mem[word] = before[word];
+        }
+    });
+    found(|_, _, op, _, _, answer| {
+        if op == 128 && *answer == [0, 5] {
+            answer[1] = 3;
+        }
+    });
+    // Marks stay behind a test, a change of mode, a reset.
+    found(|mem, before, op, channel, _, answer| {
+        if op == 145 && answer[0] == 0 {
+            mailboxes_as_before(mem, before, channel);
+        }
+    });
+    found(|mem, before, op, channel, _, answer| {
+        if op == 37 && answer[0] == 0 {
+            mailboxes_as_before(mem, before, channel);
+        }
+    });
+    found(|mem, before, op, _, _, answer| {
+        if op == 2 && answer[0] == 0 {
+            mailboxes_as_before(mem, before, 1);
+        }
+    });
+    // FIFO mode takes marks too.
+    found(|mem, before, op, channel, _, answer| {
+        if op == 128 && *answer == [0, 4] && before[block(channel) + RECEIVE_MODE] == 0 {
+            mem[mailbox(channel, oldest(before, channel))] %= 2;
+        }
+    });
+}
+
+#[test]
+fn an_entry_taken_for_an_index_without_its_modulus_is_found() {
+    found(|mem, before, op, channel, a, answer| {
+        if mailbox_arrival(before, op, channel, answer, 4) {
+            let word = oldest(before, channel);
+            let status = mailbox(channel, word);
+            if word > 1023 && status != mailbox(channel, a) {
+                mem[status] = before[status];
+            }
         }
     });
 }

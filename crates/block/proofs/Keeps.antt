@@ -16,6 +16,7 @@ use Rattle.block.specs.Clearing.{receiveFifoCleared, transmitFifoCleared
 use Rattle.block.specs.Settings.{settingRefusal, receiveModeWritten, transmitModeWritten, transmitterWritten, written}
 use Rattle.block.specs.Factory.{factorySettings, settingsToFactory}
 use Rattle.word.proofs.Computed.{passes}
+use Rattle.block.proofs.Marks.{unlist-usable}
 use Rattle.block.proofs.Sound.{word-in, usable-words, usable-set, usable-level, usable-size}
 
 -- ---- each change of a block
@@ -30,7 +31,7 @@ module _ {b : List ℕ} (u : Usable b) where
 
 module _ {b : List ℕ} (u : Usable b) where
   pub receive-cleared : Usable (receiveFifoCleared b)
-  receive-cleared = usable-level (usable-behind u receiveCleared _ (omega arith)) 0 zero-le
+  receive-cleared = usable-level (usable-behind (unlist-usable (word b receiveLevel) u) receiveCleared _ (omega arith)) 0 zero-le
 
   pub transmit-cleared : Usable (transmitFifoCleared b)
   unfolding leasts greatests

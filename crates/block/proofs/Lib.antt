@@ -3,4 +3,5 @@ pub mod Sound
 pub mod Bits
 pub mod Keeps
 pub mod Fifos
+pub mod Marks
 pub mod Refusals

@@ -4,14 +4,16 @@ use mathlib.Core.List.{List}
 use lib.ListN.{set}
 use Rattle.schedule.specs.Codes.{idle}
 use Rattle.block.specs.Counts.{counted}
+use Rattle.block.specs.Mailboxes.{unlisted}
 use Rattle.block.specs.Layout.{word, receiveLevel, receiveCleared, transmitLevel, transmitCleared, state, address, asyncMark, messageMark}
 
 -- "Clearing adds the level it found": a FIFO with its level and its cleared count at these words
 abbrev pub cleared : ℕ → ℕ → List ℕ → List ℕ
 cleared level count b = set (set b count (counted (word b count) (word b level))) level 0
 
+-- paper 02 (v): an index "cleared from it in mailbox mode .. first takes the mark from the mailbox at its entry's word modulo 1024"
 abbrev pub receiveFifoCleared : List ℕ → List ℕ
-receiveFifoCleared b = cleared receiveLevel receiveCleared b
+receiveFifoCleared b = cleared receiveLevel receiveCleared (unlisted (word b receiveLevel) b)
 
 abbrev pub transmitFifoCleared : List ℕ → List ℕ
 transmitFifoCleared b = cleared transmitLevel transmitCleared b

@@ -5,6 +5,7 @@ pub mod Ranges
 pub mod Factory
 pub mod Clearing
 pub mod Settings
+pub mod Mailboxes
 pub mod Matching
 pub mod Memories
 pub mod Fifos

@@ -7,15 +7,18 @@ use crate::layout::RECEIVE_LEVEL;
 use crate::layout::STATE;
 use crate::layout::TRANSMIT_CLEARED;
 use crate::layout::TRANSMIT_LEVEL;
+use crate::mailboxes::unlist;
 ghost use mathlib.Core.Path.{_≡_};
 ghost use Rattle.block.specs.Layout.{Whole};
 ghost use Rattle.block.specs.Clearing.{receiveFifoCleared, transmitFifoCleared, stopped, unmarked, forgotten};
 
-// Clears the receive FIFO and counts what it held.
+// Clears the receive FIFO and counts what it held; in mailbox mode the mailboxes of its indices lose their marks first.
 pub fn clear_receive(block: &mut [u32])
     requires { ⌜ Whole (now block) ⌝ }
     ensures { λ r. ⌜ now (block .exit) ≡ receiveFifoCleared (now (block .entry)) ⌝ }
 {
+    let level = block[RECEIVE_LEVEL];
+    unlist(block, level);
     block[RECEIVE_CLEARED] = std::num::wrapping_add_u32(
         block[RECEIVE_CLEARED],
         block[RECEIVE_LEVEL],

@@ -2,6 +2,7 @@
 pub mod clearing;
 pub mod factory;
 pub mod layout;
+pub mod mailboxes;
 pub mod matching;
 pub mod memories;
 pub mod modes;

@@ -23,6 +23,7 @@ pub fn outcome(arrival: Arrival) -> u32
         Arrival::Appended => 2,
         Arrival::Dropped => 3,
         Arrival::Overwriting => 4,
+        Arrival::AlreadyListed => 5,
     }
 }
 

@@ -12,16 +12,17 @@ use lib.Seq.{getD-take}
 use Rattle.word.specs.Word.{index}
 use Rattle.word.specs.Parity.{asSent}
 use Rattle.ring.proofs.Laws.{length-held}
-use Rattle.block.specs.Layout.{word, settings, receiver, transmitter, parity, matching, fifoKind, transmitMode, receiveSize, rate, receiveLevel}
-use Rattle.block.specs.Modes.{scheduled}
+use Rattle.block.specs.Layout.{word, settings, receiver, transmitter, parity, matching, receiveMode, fifoKind, transmitMode, receiveSize, rate, receiveLevel}
+use Rattle.block.specs.Modes.{fifoMode, scheduled}
 use Rattle.block.specs.Ranges.{Usable}
 use Rattle.block.specs.Settings.{settingRefusal}
 use Rattle.block.specs.Fifos.{Offsets, receiveOffsets, transmitOffsets, fifo}
 use Rattle.block.specs.Matching.{matched}
+use Rattle.block.specs.Mailboxes.{isNew}
 use Rattle.block.specs.Kept.{keptOf}
 use Rattle.schedule.specs.Output.{isFifoWord}
 use Rattle.schedule.specs.declared.Output.the-variants.{FifoWord}
-use Rattle.receive.specs.Arrival.{filtered, arrival}
+use Rattle.receive.specs.Arrival.{filtered, listed, arrival}
 use Rattle.receive.specs.Reading.{shown}
 use Rattle.receive.proofs.Bounds.{bounds, full}
 use Rattle.receive.proofs.Laws.{read-answer}
@@ -61,8 +62,17 @@ by-match w b e = go (eqb (word b matching) 0) e
     go true z = absurd (true≢false (sym z))
     go false z = refl
 
+-- already listed in mailbox mode alone
+by-mode : (w : ℕ) (b : List ℕ) → listed w b ≡ true → eqb (word b receiveMode) fifoMode ≡ false
+unfolding listed
+by-mode w b e = go (eqb (word b receiveMode) fifoMode) e
+  where
+    go : (t : Bool) → cond t false (isNew (index w) b) ≡ true → t ≡ false
+    go true z = absurd (true≢false (sym z))
+    go false z = refl
+
 module _ (b : List ℕ) where
-  outcome-is : (w : ℕ) → arrival w b ≡ outcomeBy (keptOf b) (filtered w b)
+  outcome-is : (w : ℕ) → arrival w b ≡ outcomeBy (keptOf b) (filtered w b) (listed w b)
   unfolding arrival
   outcome-is w =
       rw (setting-kept b receiver (omega arith), setting-kept b receiveSize (omega arith), setting-kept b fifoKind (omega arith), level-held receiveOffsets b)
@@ -73,6 +83,8 @@ module _ (b : List ℕ) where
       record {
         filtered = filtered w b;
         by-match = λ e. rw (setting-kept b matching (omega arith)) (by-match w b e);
+        listed = listed w b;
+        by-mode = λ e. rw (setting-kept b receiveMode (omega arith)) (by-mode w b e);
         answer = ap Arrived (outcome-is w);
         some = λ e. omega (arith, level-held receiveOffsets b, full w b (outcome-is w ∙ e), bounds u);
       }

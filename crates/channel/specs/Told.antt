@@ -9,8 +9,8 @@ use lib.Dec.{eqb, ltb}
 use lib.ListN.{length, getD, drop}
 use Rattle.word.specs.Parity.{asSent}
 use Rattle.ring.specs.Ring.{slots}
-use Rattle.block.specs.Layout.{word, receiver, transmitter, parity, matching, fifoKind, transmitMode, receiveSize, rate}
-use Rattle.block.specs.Modes.{bounded, scheduled}
+use Rattle.block.specs.Layout.{word, receiver, transmitter, parity, matching, receiveMode, fifoKind, transmitMode, receiveSize, rate}
+use Rattle.block.specs.Modes.{fifoMode, bounded, scheduled}
 use Rattle.block.specs.Ranges.{inRange}
 use Rattle.block.specs.Fifos.{Fifo}
 use Rattle.block.specs.Kept.{Kept}
@@ -18,7 +18,7 @@ use Rattle.schedule.specs.Output.{isFifoWord}
 use Rattle.schedule.specs.declared.Output.{Output}
 use Rattle.schedule.specs.declared.Output.the-variants.{Quiet, FifoWord}
 use Rattle.receive.specs.declared.Arrival.{Arrival}
-use Rattle.receive.specs.declared.Arrival.the-variants.{Ignored, Filtered, Appended, Dropped, Overwriting}
+use Rattle.receive.specs.declared.Arrival.the-variants.{Ignored, Filtered, Appended, Dropped, Overwriting, AlreadyListed}
 use Rattle.channel_calls.specs.Answers.{settingNumber, answerUnless}
 use Rattle.channel_calls.specs.Refusals.{testCallRefusal}
 use Rattle.channel_calls.specs.declared.calls.SettingCall.the-variants.{WriteSetting, ReadSetting}
@@ -40,21 +40,25 @@ module _ (h : Kept) where
   abbrev pub writeRefusal : ℕ → ℕ → ℕ
   writeRefusal s v = cond (inRange s v) (cond (eqb s receiveSize) (cond (ltb v (length (h .receive .held))) 5 0) 0) 4
 
-  -- "receiver off, ignored"; filtered; "appended"; "Held at size: bounded drops the arrival, circular overwrites the oldest."
-  abbrev pub outcomeBy : Bool → Arrival
-  outcomeBy filtered =
+  -- "receiver off, ignored"; filtered; already listed; "appended"; "Held at size: bounded drops the arrival, circular overwrites the oldest."
+  abbrev pub outcomeBy : Bool → Bool → Arrival
+  outcomeBy filtered listed =
       cond (eqb (word (h .settings) receiver) 0) Ignored
       (cond filtered Filtered
+      (cond listed AlreadyListed
       (cond (ltb (length (h .receive .held)) (word (h .settings) receiveSize)) Appended
-      (cond (eqb (word (h .settings) fifoKind) bounded) Dropped Overwriting)))
+      (cond (eqb (word (h .settings) fifoKind) bounded) Dropped Overwriting))))
 
-  -- an arrival: only the match set tells whether it is filtered, and it is so with match on alone
+  -- an arrival: only the match set tells whether it is filtered, and it is so with match on alone; only the mailbox's mark tells whether its
+  -- index is already listed, and it is so in mailbox mode alone
   pub record ArrivalTold (a : Answer) : Type 0 where
     pub filtered : Bool
     pub by-match : filtered ≡ true → eqb (word (h .settings) matching) 0 ≡ false
-    pub answer : a ≡ Arrived (outcomeBy filtered)
+    pub listed : Bool
+    pub by-mode : listed ≡ true → eqb (word (h .settings) receiveMode) fifoMode ≡ false
+    pub answer : a ≡ Arrived (outcomeBy filtered listed)
     -- one that is overwritten is there
-    pub some : outcomeBy filtered ≡ Overwriting → 0 < length (h .receive .held)
+    pub some : outcomeBy filtered listed ≡ Overwriting → 0 < length (h .receive .held)
 
   -- a step that gives a word of the FIFO: not in scheduled mode, and the word is the oldest, by the parity setting
   pub record WordTold (w gap : ℕ) : Type 0 where

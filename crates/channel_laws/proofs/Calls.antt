@@ -21,7 +21,8 @@ use Rattle.block.proofs.Sound.{in-range}
 use Rattle.block.proofs.Keeps.{stop-keeps, settable, write-keeps}
 use Rattle.status.proofs.Keeps.{rule-keeps, clear-keeps, test-keeps}
 use Rattle.receive.specs.Arrival.{arrival}
-use Rattle.receive.specs.Entries.{entryOf, mailboxAt}
+use Rattle.receive.specs.Entries.{entryOf}
+use Rattle.block.specs.Mailboxes.{mailboxAt}
 use Rattle.receive.specs.Fates.{arrivalChange}
 use Rattle.receive.proofs.Laws.{Leaves as ReceiveLeaves, entry-by-settings, arrive-keeps, arrive-leaves, arrive-fifo, arrive-overwritten, read-keeps, read-leaves, read-fifo, read-overwritten}
 use Rattle.transmit.proofs.Laws.{Leaves as TransmitLeaves, write-keeps as fifo-write-keeps, write-accepts, async-keeps, async-fifo, trigger-keeps, trigger-fifo, pause-keeps, pause-fifo, step-keeps, step-fifo, scheduled-gives-none}

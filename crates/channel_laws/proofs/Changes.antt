@@ -10,16 +10,18 @@ use lib.Dec.{eqb}
 use lib.ListN.{length, take, set}
 use lib.Seq.{sets, getD-set-other, take-set-le, take-set-lt, set-getD}
 use Rattle.block.specs.Layout.{word, settings, receiveMode, transmitMode, transmitter, receiveLevel, receiveCleared, receiveOverwritten, transmitLevel, transmitCleared, state, address, asyncMark, messageMark, Whole}
-use Rattle.block.specs.Clearing.{receiveFifoCleared, transmitFifoCleared, stopped, unmarked, forgotten}
+use Rattle.block.specs.Mailboxes.{unlisted}
+use Rattle.block.specs.Clearing.{cleared, receiveFifoCleared, transmitFifoCleared, stopped, unmarked, forgotten}
 use Rattle.block.specs.Counts.{counted}
 use Rattle.block.specs.Settings.{receiveModeWritten, transmitModeWritten, transmitterWritten, written}
 use Rattle.status.specs.Tests.{fifosCleared}
 use Rattle.block.specs.Fifos.{receiveOffsets, transmitOffsets, Stays, Clears}
 use Rattle.block.proofs.Words.{words}
+use Rattle.block.proofs.Marks.{unlist-length, unlist-before, unlist-fifo}
 use Rattle.block.proofs.Fifos.{receive-proper, transmit-proper, store-apart, clear-law}
 use Rattle.block.specs.Kept.{Kept, keptOf, keptBy, effectOf}
 use Rattle.channel_laws.specs.Effects.{settingChange}
-use Rattle.channel_laws.proofs.Holds.{withSettings, withSetting, parts, kept-setting, store-kept}
+use Rattle.channel_laws.proofs.Holds.{withSettings, withSetting, parts, kept-setting, store-kept, same-settings}
 
 -- ---- the transmitter stopped
 
@@ -38,9 +40,17 @@ forget-kept b = store-kept (unmarked (stopped b)) asyncMark 0 (omega arith) ∙ 
 cleared-settings : (b : List ℕ) (i j v : ℕ) → settings ≤ i → settings ≤ j → take settings (set (set b i v) j 0) ≡ take settings b
 cleared-settings b i j v h l = take-set-le settings (set b i v) j 0 l ∙ take-set-le settings b i v h
 
+-- marks taken from mailboxes leave it
+pub unlist-kept : (n : ℕ) (b : List ℕ) → Whole b → keptOf (unlisted n b) ≡ keptOf b
+unlist-kept n b w =
+    parts (same-settings b (unlisted n b) w (unlist-length n b ∙ w) (λ i h. unlist-before n b i (omega arith)))
+    (unlist-fifo n b receiveOffsets (omega arith) (λ i h. omega arith)) (unlist-before n b receiveOverwritten (omega arith))
+    (unlist-fifo n b transmitOffsets (omega arith) (λ i h. omega arith))
+
 module _ (b : List ℕ) (w : Whole b) where
-  receive-clear-kept : keptOf (receiveFifoCleared b) ≡ keptBy counted (effectOf (take settings b) Clears Stays) (keptOf b)
-  receive-clear-kept =
+  -- the level and the count stored, whatever marks were taken before
+  level-clear-kept : keptOf (cleared receiveLevel receiveCleared b) ≡ keptBy counted (effectOf (take settings b) Clears Stays) (keptOf b)
+  level-clear-kept =
       parts (cleared-settings b receiveCleared receiveLevel _ (omega arith) (omega arith)) (clear-law receiveOffsets receive-proper b w)
       (search words)
       (store-apart transmitOffsets (set b receiveCleared _) receiveLevel 0 (omega arith) (omega arith)
@@ -53,9 +63,15 @@ module _ (b : List ℕ) (w : Whole b) where
       ∙ store-apart receiveOffsets b transmitCleared _ (omega arith) (omega arith))
       (search words) (clear-law transmitOffsets transmit-proper b w)
 
+receive-clear-kept : (b : List ℕ) → Whole b → keptOf (receiveFifoCleared b) ≡ keptBy counted (effectOf (take settings b) Clears Stays) (keptOf b)
+receive-clear-kept b w =
+    let n : ℕ = word b receiveLevel in
+    level-clear-kept (unlisted n b) (unlist-length n b ∙ w)
+    ∙ ap (λ (h : Kept). keptBy counted (effectOf (h .settings) Clears Stays) h) (unlist-kept n b w)
+
 pub both-clear-kept : (b : List ℕ) → Whole b → keptOf (fifosCleared b) ≡ keptBy counted (effectOf (take settings b) Clears Clears) (keptOf b)
 both-clear-kept b w =
-    transmit-clear-kept (receiveFifoCleared b) (search words)
+    transmit-clear-kept (receiveFifoCleared b) (let l : Whole (unlisted (word b receiveLevel) b) = unlist-length (word b receiveLevel) b ∙ w in search words)
     ∙ ap (λ (h : Kept). keptBy counted (effectOf (h .settings) Stays Clears) h) (receive-clear-kept b w)
 
 -- ---- a setting written

@@ -10,12 +10,14 @@ use Rattle.word.proofs.Computed.{passes}
 use Rattle.ring.proofs.Laws.{none-held}
 use Rattle.block.specs.Layout.{word, settings, receiveLevel, receiveSize, receiveOverwritten, latch, enable, levelMask, ranged, blockWords, Whole}
 use Rattle.block.specs.Ranges.{leasts, greatests, inRange, Usable}
+use Rattle.block.specs.Mailboxes.{unlisted}
 use Rattle.block.specs.Clearing.{forgotten}
 use Rattle.block.specs.Counts.{counted}
 use Rattle.block.specs.Factory.{factorySettings, factoryOf, settingsToFactory}
 use Rattle.status.specs.Tests.{fifosCleared, blockReset}
 use Rattle.block.specs.Fifos.{Offsets, receiveOffsets, transmitOffsets, fifo, noEntries}
 use Rattle.block.proofs.Words.{words}
+use Rattle.block.proofs.Marks.{unlist-length}
 use Rattle.block.proofs.Sound.{usable-words}
 use Rattle.block.proofs.Keeps.{factory-parts}
 use Rattle.status.proofs.Keeps.{reset-keeps}
@@ -43,7 +45,7 @@ reset-left {b} u =
     }
   where
     still : (b : List ℕ) → Whole b → Whole (forgotten (fifosCleared b))
-    still b w = search words depth 12
+    still b w = let l : Whole (unlisted (word b receiveLevel) b) = unlist-length (word b receiveLevel) b ∙ w in search words depth 12
 
 -- ---- the factory block, of n words so that none of them is computed
 
@@ -61,7 +63,7 @@ zeros-behind (x ∷ l) m (suc i) = zeros-behind l m i
 first-word : (n i : ℕ) → word (factoryOf n) i ≡ getD factorySettings i 0
 first-word n i = zeros-behind factorySettings (n - settings) i
 
-first-zero : (n i : ℕ) → settings ≤ i → word (factoryOf n) i ≡ 0
+pub first-zero : (n i : ℕ) → settings ≤ i → word (factoryOf n) i ≡ 0
 first-zero n i h = first-word n i ∙ List·getD-eq-default factorySettings 0 h
 
 -- each word is in its range

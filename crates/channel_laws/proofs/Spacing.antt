@@ -1,26 +1,27 @@
 -- Every accepted call on a channel keeps the schedule's words apart.
 -- Assumes nothing.
-use mathlib.Core.Path.{_≡_, refl, sym, _∙_, subst}
+use mathlib.Core.Path.{_≡_, refl, sym, subst}
 use mathlib.Core.Bool.{Bool, true, false, not, cond}
-use mathlib.Core.List.{List, [], _∷_, _++_}
+use mathlib.Core.List.{List, _∷_, _++_}
 use Prim.Native.Nat.{ℕ, _+_, _<_}
 use native.Mathlib.Omega.{arith}
 use lib.Dec.{eqb}
 use lib.ListN.{take, set}
 use lib.Seq.{getD-set-other}
 use Rattle.ring.specs.Ring.{slot}
-use Rattle.block.specs.Layout.{word, settings, receiveMode, transmitMode, transmitter, messageMark, latch, enable, levelMask, state, transmitLevel, transmitPosition, transmitRing}
+use Rattle.block.specs.Layout.{word, settings, receiveMode, transmitMode, transmitter, messageMark, state, receiveLevel, transmitLevel, transmitPosition, transmitRing}
 use Rattle.block.specs.Ranges.{Usable}
 use Rattle.block.specs.Modes.{immediate}
 use Rattle.block.specs.Settings.{receiveModeWritten, transmitModeWritten, transmitterWritten, written}
 use Rattle.block.specs.Matching.{matchAt}
+use Rattle.block.specs.Mailboxes.{unlisted}
 use Rattle.block.specs.Clearing.{receiveFifoCleared, stopped, forgotten}
 use Rattle.block.proofs.Words.{words}
+use Rattle.block.proofs.Marks.{unlist-before}
 use Rattle.schedule.specs.Codes.{idle, running, paused}
 use Rattle.schedule.specs.Spacing.{Item, Forgotten}
 use Rattle.schedule.proofs.Spacing.{Apart}
-use Rattle.status.specs.Status.{ruled, latchCleared}
-use Rattle.receive.specs.Reading.{mailboxAfter}
+use Rattle.status.specs.Status.{ruled}
 use Rattle.receive.proofs.Laws.{arrive-leaves, read-leaves}
 use Rattle.transmit.specs.States.{afterTrigger, afterPause}
 use Rattle.transmit.specs.Writes.{fifoWritten, asyncWritten}
@@ -35,12 +36,11 @@ use Rattle.channel_calls.specs.declared.calls.StatusCall.the-variants.{ReadStat
 use Rattle.channel_calls.specs.declared.calls.TestCall.the-variants.{Sample, ResetTest, InitiateTest}
 use Rattle.channel_calls.specs.declared.calls.ReceiveCall.{ReceiveCall}
 use Rattle.channel_calls.specs.declared.calls.ReceiveCall.the-variants.{Arrive, ReadFifo, ReadMailbox}
-use Rattle.channel_calls.specs.declared.calls.TransmitCall.{TransmitCall}
 use Rattle.channel_calls.specs.declared.calls.TransmitCall.the-variants.{WriteFifo, WriteAsync, Trigger, Pause, Stop, Step}
 use Rattle.channel_calls.specs.declared.calls.ChannelCall.{ChannelCall}
 use Rattle.channel_calls.specs.declared.calls.ChannelCall.the-variants.{Settings, Memories, Status, Tests, Reads, Receive, Transmit}
 use Rattle.channel_calls.specs.declared.calls.Given.{Given}
-use Rattle.channel.specs.Groups.{memoryAfter, statusAfter, receiveAfter, transmitAnswer, transmitAfter}
+use Rattle.channel.specs.Groups.{memoryAfter, statusAfter, receiveAfter}
 use Rattle.channel.specs.Channel.{didAnswer, didLeave, answerShown, blockAnswer, blockAfter}
 use Rattle.channel_laws.specs.Spacing.{settingForgets, forgottenIf, lineOf}
 use Rattle.channel_laws.proofs.Holds.{kept-setting}
@@ -111,7 +111,9 @@ module _ {b : List ℕ} (u : Usable b) (line : List Item) (a : Apart (word b mes
     where
       receive-mode : (t : Bool) → Marked b (cond t b (set (receiveFifoCleared b) receiveMode v))
       receive-mode true = refl
-      receive-mode false = search words
+      receive-mode false =
+          let h : word (unlisted (word b receiveLevel) b) messageMark ≡ word b messageMark = unlist-before (word b receiveLevel) b messageMark (omega arith) in
+          search (words, h)
 
       transmit-mode : (t : Bool)
           → Apart (word (cond t b (set (forgotten b) transmitMode v)) messageMark) (forgottenIf (not t) ++ line)

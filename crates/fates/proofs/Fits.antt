@@ -19,7 +19,7 @@ use Rattle.receive.specs.Entries.{wordEntry, indexEntry, entryOf}
 use Rattle.receive.specs.Reading.{shown}
 use Rattle.receive.specs.Fates.{arrivalChange}
 use Rattle.receive.specs.declared.Arrival.{Arrival}
-use Rattle.receive.specs.declared.Arrival.the-variants.{Ignored, Filtered, Appended, Dropped, Overwriting}
+use Rattle.receive.specs.declared.Arrival.the-variants.{Ignored, Filtered, Appended, Dropped, Overwriting, AlreadyListed}
 use Rattle.receive.proofs.Laws.{entry-shown}
 use Rattle.channel.specs.Groups.{entryAnswer}
 use Rattle.channel.specs.Told.{oldestOf, outcomeBy, ArrivalTold, WordTold, StepTold, Told}
@@ -98,6 +98,7 @@ arrival-readable Filtered e r = tt
 arrival-readable Appended e r = r
 arrival-readable Dropped e r = tt
 arrival-readable Overwriting e r = r
+arrival-readable AlreadyListed e r = tt
 
 -- by whether the receive mode is written, and changes
 mode-cases : (P : Change → Type 0) → P Stays → P Clears → (p q : Bool) → P (cond p (cond q Stays Clears) Stays)
@@ -162,7 +163,7 @@ oldest-shown es ch = go (history es .kept ch .receive .held) (readable es ch)
 
 module _ (h : Kept) (r : Every Readable (h .receive .held)) where
   arrive-fits : (a : Answer) (e : List ℕ) → ArrivalTold (reduced h) a → Fits Receiving (arriveChange e a) (h .receive)
-  arrive-fits a e t = subst (λ (x : Answer). Fits Receiving (arriveChange e x) (h .receive)) (sym (t .answer)) (go (outcomeBy (reduced h) (t .filtered)) (t .some))
+  arrive-fits a e t = subst (λ (x : Answer). Fits Receiving (arriveChange e x) (h .receive)) (sym (t .answer)) (go (outcomeBy (reduced h) (t .filtered) (t .listed)) (t .some))
     where
       go : (o : Arrival) → (o ≡ Overwriting → 0 < length (h .receive .held)) → Fits Receiving (arrivalChange o e) (h .receive)
       go Ignored s = tt
@@ -170,6 +171,7 @@ module _ (h : Kept) (r : Every Readable (h .receive .held)) where
       go Appended s = tt
       go Dropped s = tt
       go Overwriting s = s refl
+      go AlreadyListed s = tt
 
   read-fits : (a : Answer) → isRefused a ≡ false → a ≡ answerUnless (cond (eqb (length (h .receive .held)) 0) 7 0) (entryAnswer (oldestOf (h .receive)))
       → Fits Receiving (readChange a) (h .receive)

@@ -6,3 +6,4 @@ pub mod Places
 pub mod Fits
 pub mod Theorem
 pub mod Consequences
+pub mod Along

@@ -2,16 +2,17 @@
 -- Assumes nothing.
 use Prim.Native.Nat.{ℕ, _≤_, _<_, zero-le}
 use mathlib.Core.Path.{_≡_, refl, ap, _∙_}
+use mathlib.Core.Logic.{_≢_}
 use mathlib.Core.List.{List}
 use native.Mathlib.Omega.{arith}
 use borrow.Author.Tests.{ltb-false}
 use lib.Dec.{ltb}
 use lib.ListN.{getD, set}
+use lib.Seq.{getD-set-other}
 use Rattle.block.specs.Counts.{counted}
-use Rattle.block.specs.Layout.{word, latch, messageMark}
+use Rattle.block.specs.Layout.{word, latch}
 use Rattle.block.specs.Ranges.{Usable}
 use Rattle.block.proofs.Sound.{is-within}
-use Rattle.block.proofs.Words.{words}
 use Rattle.status.proofs.Keeps.{rule-keeps}
 use Rattle.block.specs.Kept.{keptOf}
 use Rattle.channel_laws.proofs.Holds.{store-kept}
@@ -39,9 +40,10 @@ rule-kept : (old ch : ℕ) (m : List ℕ) → keptOf (ruledChannel old m ch) ≡
 unfolding ruledChannel
 rule-kept old ch m = store-kept (block m ch) latch _ (omega arith)
 
-rule-mark : (old ch : ℕ) (m : List ℕ) → word (ruledChannel old m ch) messageMark ≡ word (block m ch) messageMark
+-- every word but the latch mask
+rule-word : (old ch : ℕ) (m : List ℕ) (i : ℕ) → i ≢ latch → word (ruledChannel old m ch) i ≡ word (block m ch) i
 unfolding ruledChannel
-rule-mark old ch m = search words
+rule-word old ch m i ne = getD-set-other (block m ch) latch i _ 0 ne
 
 -- what a call leaves of memory m, where x is m with the call's word stored
 record Left (m x m′ : List ℕ) : Type 0 where
@@ -49,10 +51,10 @@ record Left (m x m′ : List ℕ) : Type 0 where
   channels : word m′ count ≡ word m count
   words : (i : ℕ) → i < moduleWords → word m′ i ≡ word x i
   kept : (ch : ℕ) → 1 ≤ ch → ch ≤ word m count → keptOf (block m′ ch) ≡ keptOf (block m ch)
-  mark : (ch : ℕ) → 1 ≤ ch → ch ≤ word m count → word (block m′ ch) messageMark ≡ word (block m ch) messageMark
+  others : (ch : ℕ) → 1 ≤ ch → ch ≤ word m count → (i : ℕ) → i ≢ latch → word (block m′ ch) i ≡ word (block m ch) i
 
 reads : {m : List ℕ} → Sane m → Left m m m
-reads s = record { sane = s; channels = refl; words = λ i h. refl; kept = λ ch l h. refl; mark = λ ch l h. refl }
+reads s = record { sane = s; channels = refl; words = λ i h. refl; kept = λ ch l h. refl; others = λ ch l h i ne. refl }
 
 writes : {m : List ℕ} → Sane m → (i v : ℕ) → count < i → i < moduleWords → inPart i v → Left m (set m i v) (ruledAll m (set m i v))
 writes {m} s i v l h r =
@@ -63,14 +65,11 @@ writes {m} s i v l h r =
       kept =
           λ ch p q. ap keptOf (each-block (ruled-own old) x (t .frame) (word m count) ch p q c) ∙ rule-kept old ch x
           ∙ ap keptOf (block-set m ch i v (omega arith));
-      mark =
-          λ ch p q. ap marked (each-block (ruled-own old) x (t .frame) (word m count) ch p q c) ∙ rule-mark old ch x
-          ∙ ap marked (block-set m ch i v (omega arith));
+      others =
+          λ ch p q j ne. ap (λ (b : List ℕ). word b j) (each-block (ruled-own old) x (t .frame) (word m count) ch p q c) ∙ rule-word old ch x j ne
+          ∙ ap (λ (b : List ℕ). word b j) (block-set m ch i v (omega arith));
     }
   where
-    marked : List ℕ → ℕ
-    marked b = word b messageMark
-
     old : ℕ
     old = word m threshold
 
@@ -124,5 +123,5 @@ module _ {m : List ℕ} (s : Sane m) (k : WideCall) (e : callRefusal k m ≡ 0) 
   pub wide-kept : (ch : ℕ) → 1 ≤ ch → ch ≤ word m count → keptOf (block (wideAfter k m) ch) ≡ keptOf (block m ch)
   wide-kept = accepted .kept
 
-  pub wide-mark : (ch : ℕ) → 1 ≤ ch → ch ≤ word m count → word (block (wideAfter k m) ch) messageMark ≡ word (block m ch) messageMark
-  wide-mark = accepted .mark
+  pub wide-others : (ch : ℕ) → 1 ≤ ch → ch ≤ word m count → (i : ℕ) → i ≢ latch → word (block (wideAfter k m) ch) i ≡ word (block m ch) i
+  wide-others = accepted .others

@@ -18,12 +18,14 @@ use Rattle.ring.proofs.Words.{sets-other}
 use Rattle.block.specs.Layout.{word, receiver, parity, stamps, fifoKind, receiveMode, receiveLevel, receivePosition, receiveSize, mailboxes, blockWords}
 use Rattle.block.specs.Ranges.{leasts, greatests, Usable}
 use Rattle.block.specs.Fifos.{receiveOffsets, entryAppended}
+use Rattle.block.specs.Mailboxes.{mailboxAt, newMark, unlisted}
+use Rattle.block.proofs.Marks.{unlist-usable}
 use Rattle.block.proofs.Sound.{at-least, at-most, level-in-size, usable-beyond}
-use Rattle.receive.specs.Arrival.{outcome, filtered, arrival}
-use Rattle.receive.specs.Entries.{stampOf, entryOf, mailboxAt, newMark, mailOf, mailed}
+use Rattle.receive.specs.Arrival.{outcome, filtered, listed, arrival}
+use Rattle.receive.specs.Entries.{stampOf, entryOf, mailOf, mailed}
 use Rattle.receive.specs.Arrived.{overwriting, stored}
 use Rattle.receive.specs.declared.Arrival.{Arrival}
-use Rattle.receive.specs.declared.Arrival.the-variants.{Ignored, Filtered, Appended, Dropped, Overwriting}
+use Rattle.receive.specs.declared.Arrival.the-variants.{Ignored, Filtered, Appended, Dropped, Overwriting, AlreadyListed}
 
 -- level, size and position of the receive FIFO
 pub record Bounds (b : List ℕ) : Type 0 where
@@ -63,18 +65,19 @@ record Told (room : Bool) (a : Arrival) : Type 0 where
 
 told : (w : ℕ) (b : List ℕ) → Told (ltb (word b receiveLevel) (word b receiveSize)) (arrival w b)
 unfolding arrival
-told w b = go (eqb (word b receiver) 0) (filtered w b) (ltb (word b receiveLevel) (word b receiveSize)) (eqb (word b fifoKind) 0)
+told w b = go (eqb (word b receiver) 0) (filtered w b) (listed w b) (ltb (word b receiveLevel) (word b receiveSize)) (eqb (word b fifoKind) 0)
   where
-    not-this : {room : Bool} {a : Arrival} → outcome a ≤ 1 → Told room a
-    not-this h = record { appended = λ e. absurd (omega (arith, ap outcome e)); overwriting = λ e. absurd (omega (arith, ap outcome e)) }
+    not-this : {room : Bool} {a : Arrival} → outcome a ≢ 2 → outcome a ≢ 4 → Told room a
+    not-this h k = record { appended = λ e. absurd (h (ap outcome e)); overwriting = λ e. absurd (k (ap outcome e)) }
 
-    go : (off out room bounded : Bool)
-        → Told room (cond off Ignored (cond out Filtered (cond room Appended (cond bounded Dropped Overwriting))))
-    go true out room bounded = not-this (omega arith)
-    go false true room bounded = not-this (omega arith)
-    go false false true bounded = record { appended = λ e. refl; overwriting = λ e. absurd (omega (arith, ap outcome e)) }
-    go false false false true = record { appended = λ e. absurd (omega (arith, ap outcome e)); overwriting = λ e. refl }
-    go false false false false = record { appended = λ e. absurd (omega (arith, ap outcome e)); overwriting = λ e. refl }
+    go : (off out new room bounded : Bool)
+        → Told room (cond off Ignored (cond out Filtered (cond new AlreadyListed (cond room Appended (cond bounded Dropped Overwriting)))))
+    go true out new room bounded = not-this (omega arith) (omega arith)
+    go false true new room bounded = not-this (omega arith) (omega arith)
+    go false false true room bounded = not-this (omega arith) (omega arith)
+    go false false false true bounded = record { appended = λ e. refl; overwriting = λ e. absurd (omega (arith, ap outcome e)) }
+    go false false false false true = record { appended = λ e. absurd (omega (arith, ap outcome e)); overwriting = λ e. refl }
+    go false false false false false = record { appended = λ e. absurd (omega (arith, ap outcome e)); overwriting = λ e. refl }
 
 pub room : (w : ℕ) (b : List ℕ) → arrival w b ≡ Appended → word b receiveLevel < word b receiveSize
 room w b e = ltb-true (word b receiveLevel) (word b receiveSize) (told w b .appended e)
@@ -84,51 +87,63 @@ full w b e = ltb-false (word b receiveLevel) (word b receiveSize) (told w b .ove
 
 -- ---- a mailbox takes the word: the mailboxes stand behind all words with a range, the counts and both rings
 
-pub mail-keeps : {b : List ℕ} → Usable b → (stamp w : ℕ) → Usable (mailed stamp w b)
+pub mail-keeps : {b : List ℕ} → Usable b → (mark stamp w : ℕ) → Usable (mailed mark stamp w b)
 unfolding mailed
-mail-keeps {b} u stamp w = go (eqb (word b receiveMode) 0) (mailOf stamp w b)
+mail-keeps {b} u mark stamp w = go (eqb (word b receiveMode) 0) (mailOf mark stamp w b)
   where
     go : (t : Bool) (e : List ℕ) → Usable (cond t b (sets b (mailboxAt (index w)) e))
     go true e = u
     go false e = usable-beyond b (mailboxAt (index w)) e u (omega arith)
 
-pub mail-before : (stamp w : ℕ) (b : List ℕ) (i : ℕ) → i < mailboxes → word (mailed stamp w b) i ≡ word b i
+pub mail-before : (mark stamp w : ℕ) (b : List ℕ) (i : ℕ) → i < mailboxes → word (mailed mark stamp w b) i ≡ word b i
 unfolding mailed
-mail-before stamp w b i h = go (eqb (word b receiveMode) 0) (mailOf stamp w b)
+mail-before mark stamp w b i h = go (eqb (word b receiveMode) 0) (mailOf mark stamp w b)
   where
     go : (t : Bool) (e : List ℕ) → word (cond t b (sets b (mailboxAt (index w)) e)) i ≡ word b i
     go true e = refl
     go false e = sets-other b (mailboxAt (index w)) e i (λ l u. omega arith)
 
 -- `m` is the block once the mailbox took the word, and `a` the decision
-pub mail-usable : (b m : List ℕ) (stamp w : ℕ) → Usable b → m ≡ mailed stamp w b → Usable m
-mail-usable b m stamp w u e = rw e (mail-keeps u stamp w)
+pub mail-usable : (b m : List ℕ) (mark stamp w : ℕ) → Usable b → m ≡ mailed mark stamp w b → Usable m
+mail-usable b m mark stamp w u e = rw e (mail-keeps u mark stamp w)
 
-pub mail-room : (b m : List ℕ) (stamp w : ℕ) (a : Arrival) → Usable b → m ≡ mailed stamp w b → a ≡ arrival w b → a ≡ Appended
+pub mail-room : (b m : List ℕ) (mark stamp w : ℕ) (a : Arrival) → Usable b → m ≡ mailed mark stamp w b → a ≡ arrival w b → a ≡ Appended
     → word m receiveLevel < slots
-mail-room b m stamp w a u e d t =
+mail-room b m mark stamp w a u e d t =
     let r : word b receiveLevel < word b receiveSize = room w b (cc) in
-    rw (e, mail-before stamp w b receiveLevel (omega arith)) (omega (arith, bounds u))
+    rw (e, mail-before mark stamp w b receiveLevel (omega arith)) (omega (arith, bounds u))
+
+-- the oldest entry's mailbox lost its mark
+pub unlist-left : (b l : List ℕ) → Usable b → l ≡ unlisted 1 b → Usable l
+unlist-left b l u e = rw e (unlist-usable 1 u)
 
 -- ---- what the code stores
 
 -- what is stored, from what the calls leave: `m` after the mailbox, `c` after the entry `e`
-pub store-appended : (b m c e : List ℕ) (stamp w : ℕ) (a : Arrival) → a ≡ Appended → m ≡ mailed stamp w b → e ≡ entryOf stamp w b
+pub store-appended : (b m c e : List ℕ) (stamp w : ℕ) (a : Arrival) → a ≡ Appended → m ≡ mailed newMark stamp w b → e ≡ entryOf stamp w b
     → c ≡ entryAppended receiveOffsets m e → c ≡ stored a stamp w b
 unfolding stored
 store-appended b m c e stamp w a d p q r = rw d (r ∙ ap₂ (entryAppended receiveOffsets) p q)
 
-pub store-overwriting : (b m c e : List ℕ) (stamp w : ℕ) (a : Arrival) → a ≡ Overwriting → m ≡ mailed stamp w b → e ≡ entryOf stamp w b
-    → c ≡ overwriting m e → c ≡ stored a stamp w b
+pub store-dropped : (b c : List ℕ) (stamp w : ℕ) (a : Arrival) → a ≡ Dropped → c ≡ mailed 0 stamp w b → c ≡ stored a stamp w b
 unfolding stored
-store-overwriting b m c e stamp w a d p q r = rw d (r ∙ ap₂ overwriting p q)
+store-dropped b c stamp w a d p = rw d p
+
+pub store-listed : (b c : List ℕ) (stamp w : ℕ) (a : Arrival) → a ≡ AlreadyListed → c ≡ mailed newMark stamp w b → c ≡ stored a stamp w b
+unfolding stored
+store-listed b c stamp w a d p = rw d p
+
+pub store-overwriting : (b l m c e : List ℕ) (stamp w : ℕ) (a : Arrival) → a ≡ Overwriting → l ≡ unlisted 1 b → m ≡ mailed newMark stamp w l
+    → e ≡ entryOf stamp w b → c ≡ overwriting m e → c ≡ stored a stamp w b
+unfolding stored
+store-overwriting b l m c e stamp w a d k p q r = rw d (r ∙ ap₂ overwriting (p ∙ ap (mailed newMark stamp w) k) q)
 
 -- the stores of a mailbox, from what the code computes for them
-pub mail-stores : (b : List ℕ) (stamp w mark i kept : ℕ) → word b receiveMode ≢ 0 → mark ≡ errorMark (word b parity) w → i ≡ index w
+pub mail-stores : (b : List ℕ) (mark stamp w error i kept : ℕ) → word b receiveMode ≢ 0 → error ≡ errorMark (word b parity) w → i ≡ index w
     → kept ≡ stampOf (word b stamps) stamp
-    → set (set (set b (mailboxAt i) (mark + newMark)) (mailboxAt i + 1) w) (mailboxAt i + 2) kept ≡ mailed stamp w b
+    → set (set (set b (mailboxAt i) (error + mark)) (mailboxAt i + 1) w) (mailboxAt i + 2) kept ≡ mailed mark stamp w b
 unfolding mailed
-mail-stores b stamp w mark i kept on p q r = rw (ne-eqb (word b receiveMode) 0 on, p, q, r) (simp towards-suc)
+mail-stores b mark stamp w error i kept on p q r = rw (ne-eqb (word b receiveMode) 0 on, p, q, r) (simp towards-suc)
 
 -- the mark that the code computes
 pub mark-fits : (mark parity w : ℕ) → mark ≡ errorMark parity w → mark ≤ 1

@@ -19,17 +19,19 @@ use Rattle.block.specs.Ranges.{leasts, greatests, Usable}
 use Rattle.block.specs.Counts.{counted}
 use Rattle.status.specs.Status.{parityErrorSignal}
 use Rattle.block.specs.Fifos.{Offsets, receiveOffsets, transmitOffsets, entryAppended, entryOverwriting, Fifo, fifo, accepts, gives, overwrites, changed, overwrittenAfter}
+use Rattle.block.specs.Mailboxes.{mailboxAt, newMark, unlisted}
 use Rattle.block.proofs.Words.{words}
+use Rattle.block.proofs.Marks.{unlist-before, unlist-fifo, unlist-usable}
 use Rattle.block.proofs.Sound.{in-range, usable-level, usable-beyond}
 use Rattle.block.proofs.Keeps.{usable-store, usable-behind}
 use Rattle.block.proofs.Fifos.{Apart, receive-proper, store-apart, take-law, append-law, overwrite-law}
 use Rattle.receive.specs.Arrival.{arrival}
-use Rattle.receive.specs.Entries.{stampOf, wordEntry, indexEntry, entryOf, mailboxAt, mailOf, mailed}
+use Rattle.receive.specs.Entries.{stampOf, wordEntry, indexEntry, entryOf, mailOf, mailed}
 use Rattle.receive.specs.Arrived.{overwriting, stored, arrived, errorSignal, signalled, arrivalSignal}
 use Rattle.receive.specs.Reading.{shown, readAnswer, readAfter}
 use Rattle.receive.specs.Fates.{arrivalChange}
 use Rattle.receive.specs.declared.Arrival.{Arrival}
-use Rattle.receive.specs.declared.Arrival.the-variants.{Ignored, Filtered, Appended, Dropped, Overwriting}
+use Rattle.receive.specs.declared.Arrival.the-variants.{Ignored, Filtered, Appended, Dropped, Overwriting, AlreadyListed}
 use Rattle.receive.proofs.Bounds.{bounds, mark-le, room, full, mail-keeps, mail-before}
 
 -- ---- entries
@@ -106,21 +108,30 @@ stores-leave b s e h a =
 
 -- ---- a mailbox takes the word
 
-mail-fifo : (p : Offsets) (stamp w : ℕ) (b : List ℕ) → 0 < p .ring .slots → ((i : ℕ) → mailboxes ≤ i → Apart p i)
-    → fifo p (mailed stamp w b) ≡ fifo p b
+mail-fifo : (p : Offsets) (mark stamp w : ℕ) (b : List ℕ) → 0 < p .ring .slots → ((i : ℕ) → mailboxes ≤ i → Apart p i)
+    → fifo p (mailed mark stamp w b) ≡ fifo p b
 unfolding mailed
-mail-fifo p stamp w b h a = go (eqb (word b receiveMode) 0)
+mail-fifo p mark stamp w b h a = go (eqb (word b receiveMode) 0)
   where
-    go : (t : Bool) → fifo p (cond t b (sets b (mailboxAt (index w)) (mailOf stamp w b))) ≡ fifo p b
+    go : (t : Bool) → fifo p (cond t b (sets b (mailboxAt (index w)) (mailOf mark stamp w b))) ≡ fifo p b
     go true = refl
-    go false = sets-apart p b (mailboxAt (index w)) (mailOf stamp w b) h (λ i l u. a i (omega arith))
+    go false = sets-apart p b (mailboxAt (index w)) (mailOf mark stamp w b) h (λ i l u. a i (omega arith))
 
-mail-leaves : (stamp w : ℕ) (b : List ℕ) → Leaves b (mailed stamp w b)
-mail-leaves stamp w b =
+mail-leaves : (mark stamp w : ℕ) (b : List ℕ) → Leaves b (mailed mark stamp w b)
+mail-leaves mark stamp w b =
     record {
-      setting = λ i h. mail-before stamp w b i (omega arith);
-      mark = mail-before stamp w b messageMark (omega arith);
-      transmit = mail-fifo transmitOffsets stamp w b (omega arith) (λ i h. omega arith);
+      setting = λ i h. mail-before mark stamp w b i (omega arith);
+      mark = mail-before mark stamp w b messageMark (omega arith);
+      transmit = mail-fifo transmitOffsets mark stamp w b (omega arith) (λ i h. omega arith);
+    }
+
+-- the oldest entry's mailbox loses its mark
+unlist-leaves : (b : List ℕ) → Leaves b (unlisted 1 b)
+unlist-leaves b =
+    record {
+      setting = λ i h. unlist-before 1 b i (omega arith);
+      mark = unlist-before 1 b messageMark (omega arith);
+      transmit = unlist-fifo 1 b transmitOffsets (omega arith) (λ i h. omega arith);
     }
 
 -- ---- an entry is accepted
@@ -173,16 +184,34 @@ overwrite-overwritten b e h =
 
 module _ {b : List ℕ} (u : Usable b) (stamp w : ℕ) where
   abbrev mail : List ℕ
-  mail = mailed stamp w b
+  mail = mailed newMark stamp w b
 
   usable : Usable mail
-  usable = mail-keeps u stamp w
+  usable = mail-keeps u newMark stamp w
+
+  -- the same with the oldest entry's mark taken first
+  abbrev over : List ℕ
+  over = mailed newMark stamp w (unlisted 1 b)
+
+  over-usable : Usable over
+  over-usable = mail-keeps (unlist-usable 1 u) newMark stamp w
+
+  over-leaves : Leaves b over
+  over-leaves = then (unlist-leaves b) (mail-leaves newMark stamp w (unlisted 1 b))
+
+  over-before : (i : ℕ) → i < mailboxes → word over i ≡ word b i
+  over-before i h = mail-before newMark stamp w (unlisted 1 b) i h ∙ unlist-before 1 b i h
+
+  over-fifo : fifo receiveOffsets over ≡ fifo receiveOffsets b
+  over-fifo =
+      mail-fifo receiveOffsets newMark stamp w (unlisted 1 b) (omega arith) (λ i h. omega arith)
+      ∙ unlist-fifo 1 b receiveOffsets (omega arith) (λ i h. omega arith)
 
   has-room : arrival w b ≡ Appended → word mail receiveLevel < word mail receiveSize
-  has-room e = rw (mail-before stamp w b receiveLevel (omega arith), mail-before stamp w b receiveSize (omega arith)) (room w b e)
+  has-room e = rw (mail-before newMark stamp w b receiveLevel (omega arith), mail-before newMark stamp w b receiveSize (omega arith)) (room w b e)
 
-  is-full : arrival w b ≡ Overwriting → word mail receiveSize ≤ word mail receiveLevel
-  is-full e = rw (mail-before stamp w b receiveLevel (omega arith), mail-before stamp w b receiveSize (omega arith)) (full w b e)
+  is-full : arrival w b ≡ Overwriting → word over receiveSize ≤ word over receiveLevel
+  is-full e = rw (over-before receiveLevel (omega arith), over-before receiveSize (omega arith)) (full w b e)
 
   pub arrive-keeps : Usable (arrived stamp w b)
   unfolding stored
@@ -192,8 +221,9 @@ module _ {b : List ℕ} (u : Usable b) (stamp w : ℕ) where
       go Ignored d = u
       go Filtered d = u
       go Appended d = append-keeps usable (entryOf stamp w b) (has-room d)
-      go Dropped d = usable
-      go Overwriting d = overwrite-keeps usable (entryOf stamp w b)
+      go Dropped d = mail-keeps u 0 stamp w
+      go Overwriting d = overwrite-keeps over-usable (entryOf stamp w b)
+      go AlreadyListed d = usable
 
   pub arrive-leaves : Leaves b (arrived stamp w b)
   unfolding stored
@@ -202,45 +232,49 @@ module _ {b : List ℕ} (u : Usable b) (stamp w : ℕ) where
       go : (a : Arrival) → Leaves b (stored a stamp w b)
       go Ignored = same-left b
       go Filtered = same-left b
-      go Appended = then (mail-leaves stamp w b) (append-leaves mail (entryOf stamp w b) (entry-width stamp w b))
-      go Dropped = mail-leaves stamp w b
-      go Overwriting = then (mail-leaves stamp w b) (overwrite-leaves mail (entryOf stamp w b) (entry-width stamp w b))
+      go Appended = then (mail-leaves newMark stamp w b) (append-leaves mail (entryOf stamp w b) (entry-width stamp w b))
+      go Dropped = mail-leaves 0 stamp w b
+      go Overwriting = then over-leaves (overwrite-leaves over (entryOf stamp w b) (entry-width stamp w b))
+      go AlreadyListed = mail-leaves newMark stamp w b
 
   -- the receive FIFO
   pub arrive-fifo : fifo receiveOffsets (arrived stamp w b) ≡ changed counted (arrivalChange (arrival w b) (entryOf stamp w b)) (fifo receiveOffsets b)
   unfolding stored
   arrive-fifo = go (arrival w b) refl
     where
-      mail-left : fifo receiveOffsets mail ≡ fifo receiveOffsets b
-      mail-left = mail-fifo receiveOffsets stamp w b (omega arith) (λ i h. omega arith)
+      mail-left : (mark : ℕ) → fifo receiveOffsets (mailed mark stamp w b) ≡ fifo receiveOffsets b
+      mail-left mark = mail-fifo receiveOffsets mark stamp w b (omega arith) (λ i h. omega arith)
 
       go : (a : Arrival) → arrival w b ≡ a → fifo receiveOffsets (stored a stamp w b) ≡ changed counted (arrivalChange a (entryOf stamp w b)) (fifo receiveOffsets b)
       go Ignored d = refl
       go Filtered d = refl
       go Appended d =
           append-law receiveOffsets receive-proper mail (usable .whole) (entryOf stamp w b) (entry-width stamp w b) (omega (arith, has-room d, bounds usable))
-          ∙ ap (λ (f : Fifo). accepts counted f (entryOf stamp w b)) mail-left
-      go Dropped d = mail-left
+          ∙ ap (λ (f : Fifo). accepts counted f (entryOf stamp w b)) (mail-left newMark)
+      go Dropped d = mail-left 0
       go Overwriting d =
-          store-apart receiveOffsets (entryOverwriting receiveOffsets mail (entryOf stamp w b)) _ _ (omega arith) (omega arith)
-          ∙ overwrite-law receiveOffsets receive-proper mail (usable .whole) (entryOf stamp w b) (entry-width stamp w b)
-          (omega (arith, is-full d, bounds usable)) (omega (arith, bounds usable))
-          ∙ ap (λ (f : Fifo). overwrites counted f (entryOf stamp w b)) mail-left
+          store-apart receiveOffsets (entryOverwriting receiveOffsets over (entryOf stamp w b)) _ _ (omega arith) (omega arith)
+          ∙ overwrite-law receiveOffsets receive-proper over (over-usable .whole) (entryOf stamp w b) (entry-width stamp w b)
+          (omega (arith, is-full d, bounds over-usable)) (omega (arith, bounds over-usable))
+          ∙ ap (λ (f : Fifo). overwrites counted f (entryOf stamp w b)) over-fifo
+      go AlreadyListed d = mail-left newMark
 
   -- the count of the overwritten grows on overwriting alone
   pub arrive-overwritten : word (arrived stamp w b) receiveOverwritten ≡ overwrittenAfter counted (arrivalChange (arrival w b) (entryOf stamp w b)) (word b receiveOverwritten)
   unfolding stored
   arrive-overwritten = go (arrival w b)
     where
-      mail-left : word mail receiveOverwritten ≡ word b receiveOverwritten
-      mail-left = mail-before stamp w b receiveOverwritten (omega arith)
+      mail-left : (mark : ℕ) → word (mailed mark stamp w b) receiveOverwritten ≡ word b receiveOverwritten
+      mail-left mark = mail-before mark stamp w b receiveOverwritten (omega arith)
 
       go : (a : Arrival) → word (stored a stamp w b) receiveOverwritten ≡ overwrittenAfter counted (arrivalChange a (entryOf stamp w b)) (word b receiveOverwritten)
       go Ignored = refl
       go Filtered = refl
-      go Appended = append-overwritten mail (entryOf stamp w b) ∙ mail-left
-      go Dropped = mail-left
-      go Overwriting = overwrite-overwritten mail (entryOf stamp w b) (usable .whole) ∙ ap (λ (n : ℕ). counted n 1) mail-left
+      go Appended = append-overwritten mail (entryOf stamp w b) ∙ mail-left newMark
+      go Dropped = mail-left 0
+      go Overwriting =
+          overwrite-overwritten over (entryOf stamp w b) (over-usable .whole) ∙ ap (λ (n : ℕ). counted n 1) (over-before receiveOverwritten (omega arith))
+      go AlreadyListed = mail-left newMark
 
 -- an arrival signals a parity error or nothing
 pub arrive-signal : (w : ℕ) (b : List ℕ) → arrivalSignal w b ≤ parityErrorSignal
@@ -260,6 +294,7 @@ arrive-signal w b = go (arrival w b)
     go Appended = error
     go Dropped = dropped (eqb (word b receiveMode) 0)
     go Overwriting = error
+    go AlreadyListed = error
 
 -- ---- a FIFO read
 

@@ -1,13 +1,14 @@
 -- What is stored of an arriving word: an entry of the receive FIFO, and in mailbox mode a mailbox (paper 01, "Receive").
-use Prim.Native.Nat.{ℕ, _+_, _*_}
+use Prim.Native.Nat.{ℕ, _+_}
 use mathlib.Core.List.{List, [], _∷_}
 use mathlib.Core.Bool.{cond}
 use lib.Dec.{eqb}
 use lib.Seq.{sets}
 use Rattle.word.specs.Word.{index}
 use Rattle.word.specs.Parity.{errorMark}
-use Rattle.block.specs.Layout.{word, parity, stamps, receiveMode, mailboxes}
+use Rattle.block.specs.Layout.{word, parity, stamps, receiveMode}
 use Rattle.block.specs.Modes.{fifoMode}
+use Rattle.block.specs.Mailboxes.{mailboxAt}
 
 -- "stamp (0 with stamps off)"
 unfoldable pub stampOf : ℕ → ℕ → ℕ
@@ -25,18 +26,10 @@ indexEntry w = 0 ∷ index w ∷ 0 ∷ []
 unfoldable pub entryOf : ℕ → ℕ → List ℕ → List ℕ
 entryOf stamp w b = cond (eqb (word b receiveMode) fifoMode) (wordEntry stamp w b) (indexEntry w)
 
--- the first word of the mailbox of an index
-abbrev pub mailboxAt : ℕ → ℕ
-mailboxAt index = mailboxes + 3 * index
-
--- "D1 new"
-abbrev pub newMark : ℕ
-newMark = 2
-
--- "status (D0 parity error, D1 new), word and stamp"
-abbrev pub mailOf : ℕ → ℕ → List ℕ → List ℕ
-mailOf stamp w b = (errorMark (word b parity) w + newMark) ∷ w ∷ stampOf (word b stamps) stamp ∷ []
+-- "status (D0 parity error, D1 new), word and stamp": with the new mark, or with 0 in its place
+abbrev pub mailOf : ℕ → ℕ → ℕ → List ℕ → List ℕ
+mailOf mark stamp w b = (errorMark (word b parity) w + mark) ∷ w ∷ stampOf (word b stamps) stamp ∷ []
 
 -- "In mailbox mode the mailbox of that index takes" these, "always"
-unfoldable pub mailed : ℕ → ℕ → List ℕ → List ℕ
-mailed stamp w b = cond (eqb (word b receiveMode) fifoMode) b (sets b (mailboxAt (index w)) (mailOf stamp w b))
+unfoldable pub mailed : ℕ → ℕ → ℕ → List ℕ → List ℕ
+mailed mark stamp w b = cond (eqb (word b receiveMode) fifoMode) b (sets b (mailboxAt (index w)) (mailOf mark stamp w b))

@@ -3,13 +3,14 @@ use Prim.Native.Nat.{ℕ}
 use mathlib.Core.List.{List}
 use Rattle.block.specs.Fifos.{Change, Stays, Adds, Overwrites}
 use Rattle.receive.specs.declared.Arrival.{Arrival}
-use Rattle.receive.specs.declared.Arrival.the-variants.{Ignored, Filtered, Appended, Dropped, Overwriting}
+use Rattle.receive.specs.declared.Arrival.the-variants.{Ignored, Filtered, Appended, Dropped, Overwriting, AlreadyListed}
 
 -- "Arrival answered as appended: the entry of Receive .. is added; as overwriting: the oldest is overwritten first, then the same."
--- "Dropped, filtered and ignored arrivals are not accepted."
+-- "Dropped, filtered and ignored arrivals are not accepted."; paper 02 (v): "an index not appended is not accepted"
 abbrev pub arrivalChange : Arrival → List ℕ → Change
 arrivalChange Ignored e = Stays
 arrivalChange Filtered e = Stays
 arrivalChange Appended e = Adds e
 arrivalChange Dropped e = Stays
 arrivalChange Overwriting e = Overwrites e
+arrivalChange AlreadyListed e = Stays

@@ -1,11 +1,9 @@
 -- Reading the receive FIFO and a mailbox (paper 01, "Receive").
 use Prim.Native.Nat.{ℕ, _%_}
 use mathlib.Core.List.{List, [], _∷_}
-use lib.ListN.{set}
 use Rattle.ring.specs.Ring.{words}
-use Rattle.block.specs.Layout.{word}
 use Rattle.block.specs.Fifos.{receiveOffsets, oldestEntry, entryTaken}
-use Rattle.receive.specs.Entries.{mailboxAt}
+use Rattle.block.specs.Mailboxes.{mailboxAt, markTaken}
 
 -- "of a stored status the two low bits count"
 abbrev pub shown : List ℕ → List ℕ
@@ -25,4 +23,4 @@ mailboxAnswer index b = shown (words b (mailboxAt index) 3)
 
 -- "and clears D1 (of the stored status only D0 stays)"
 abbrev pub mailboxAfter : ℕ → List ℕ → List ℕ
-mailboxAfter index b = set b (mailboxAt index) (word b (mailboxAt index) % 2)
+mailboxAfter index b = markTaken index b

@@ -13,30 +13,35 @@ use block::layout::RECEIVE_RING;
 use block::layout::RECEIVE_SIZE;
 use block::layout::RECEIVER;
 use block::layout::STAMPS;
+use block::mailboxes::NEW;
+use block::mailboxes::take_mark;
+use block::mailboxes::unlist;
 use block::modes::BOUNDED;
 use block::modes::FIFO_MODE;
 use ring::Entry;
 use status::rule::PARITY_ERROR;
 ghost use mathlib.Core.Path.{_≡_};
-ghost use Prim.Native.Nat.{_<_};
+ghost use Prim.Native.Nat.{_<_, _≤_};
 ghost use Rattle.ring.specs.Ring.{slots};
 ghost use Rattle.ring.specs.Entry.{fields};
 ghost use Rattle.block.specs.Layout.{word, receiveLevel, indexes};
 ghost use Rattle.block.specs.Ranges.{Usable};
+ghost use Rattle.block.specs.Mailboxes.{newMark};
 ghost use Rattle.block.specs.Fifos.{receiveOffsets, entryAppended};
-ghost use Rattle.receive.specs.Arrival.{filtered, arrival};
+ghost use Rattle.receive.specs.Arrival.{filtered, listed, arrival};
 ghost use Rattle.receive.specs.Entries.{stampOf, entryOf, mailed};
 ghost use Rattle.receive.specs.Arrived.{overwriting, stored, arrived, signalled, arrivalSignal};
 ghost use Rattle.receive.specs.Reading.{shown, readAnswer, readAfter, mailboxAnswer, mailboxAfter};
 
 // What became of an arriving word: ignored with the receiver off; not in the match set; appended; dropped by a full bounded FIFO; appended
-// over the oldest of a full circular FIFO.
+// over the oldest of a full circular FIFO; its index, in mailbox mode, not appended again while its mailbox is new.
 pub enum Arrival {
     Ignored,
     Filtered,
     Appended,
     Dropped,
     Overwriting,
+    AlreadyListed,
 }
 
 // The answer to an arrival: what became of it, and the mask of the conditions that it signals.
@@ -56,6 +61,17 @@ fn is_filtered(block: &[u32], word: u32) -> bool
     block::matching::read(block, word::index(word)) == 0
 }
 
+// Whether a word's index is not to be listed again: in mailbox mode its mailbox still has the new mark.
+fn is_listed(block: &[u32], word: u32) -> bool
+    requires { ⌜ Usable (now block) ⌝ }
+    ensures { λ r. ⌜ r ≡ listed word (now (block .entry)) ⌝ }
+{
+    if block[RECEIVE_MODE] == FIFO_MODE {
+        return false;
+    }
+    block[MAILBOXES + 3 * (word::index(word) as usize)] / NEW % 2 == 1
+}
+
 // What becomes of a word, decided before anything is stored.
 fn decide(block: &[u32], word: u32) -> Arrival
     requires { ⌜ Usable (now block) ⌝ }
@@ -66,6 +82,9 @@ fn decide(block: &[u32], word: u32) -> Arrival
     }
     if is_filtered(block, word) {
         return Arrival::Filtered;
+    }
+    if is_listed(block, word) {
+        return Arrival::AlreadyListed;
     }
     if block[RECEIVE_LEVEL] < block[RECEIVE_SIZE] {
         return Arrival::Appended;
@@ -105,10 +124,10 @@ fn entry_of(block: &[u32], stamp: u32, word: u32) -> Entry
     }
 }
 
-// In mailbox mode the mailbox of the word's index takes it, marked as new.
-fn mail(block: &mut [u32], stamp: u32, word: u32)
-    requires { ⌜ Usable (now block) ⌝ }
-    ensures { λ r. ⌜ now (block .exit) ≡ mailed stamp word (now (block .entry)) ⌝ }
+// In mailbox mode the mailbox of the word's index takes it, with the new mark or with 0 in its place.
+fn mail(block: &mut [u32], mark: u32, stamp: u32, word: u32)
+    requires { ⌜ (Usable (now block)) × (mark ≤ newMark) ⌝ }
+    ensures { λ r. ⌜ now (block .exit) ≡ mailed mark stamp word (now (block .entry)) ⌝ }
 {
     if block[RECEIVE_MODE] == FIFO_MODE {
         return;
@@ -116,7 +135,7 @@ fn mail(block: &mut [u32], stamp: u32, word: u32)
     let error = word::error_mark(block[PARITY], word);
     let kept = stamp_of(block[STAMPS], stamp);
     let at = MAILBOXES + 3 * (word::index(word) as usize);
-    block[at] = error + 2;
+    block[at] = error + mark;
     block[at + 1] = word;
     block[at + 2] = kept;
 }
@@ -159,14 +178,16 @@ fn store(block: &mut [u32], decision: Arrival, stamp: u32, word: u32)
         Arrival::Ignored => {}
         Arrival::Filtered => {}
         Arrival::Appended => {
-            mail(block, stamp, word);
+            mail(block, NEW, stamp, word);
             append(block, entry);
         }
-        Arrival::Dropped => mail(block, stamp, word),
+        Arrival::Dropped => mail(block, 0, stamp, word),
         Arrival::Overwriting => {
-            mail(block, stamp, word);
+            unlist(block, 1);
+            mail(block, NEW, stamp, word);
             overwrite(block, entry);
         }
+        Arrival::AlreadyListed => mail(block, NEW, stamp, word),
     }
 }
 
@@ -187,6 +208,7 @@ fn signal_of(block: &[u32], decision: Arrival, word: u32) -> u32
             signal
         }
         Arrival::Overwriting => signal,
+        Arrival::AlreadyListed => signal,
     }
 }
 
@@ -240,12 +262,11 @@ pub fn read_mailbox(block: &mut [u32], index: u32) -> Entry
         × (now (block .exit) ≡ mailboxAfter index (now (block .entry))) ⌝ }
 {
     let at = MAILBOXES + 3 * (index as usize);
-    let status = block[at];
     let entry = Entry {
-        status,
+        status: block[at],
         word: block[at + 1],
         stamp: block[at + 2],
     };
-    block[at] = status % 2;
+    take_mark(block, index);
     shown(entry)
 }

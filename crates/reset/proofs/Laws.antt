@@ -6,6 +6,7 @@ use mathlib.Core.List.{List}
 use native.Mathlib.Omega.{arith}
 use lib.ListN.{length, drop, length-drop, length-set, List·getD-append}
 use Rattle.block.specs.Layout.{word}
+use Rattle.block.proofs.Marks.{unlist-length}
 use Rattle.status.specs.Tests.{blockReset}
 use Rattle.frame.specs.Layout.{count, moduleWords, Framed, block}
 use Rattle.frame.proofs.Blocks.{block-length, block-behind}
@@ -16,7 +17,7 @@ use Rattle.reset.specs.Reset.{resetChannel, resetTo, moduleReset}
 -- a channel's new block goes by its own block alone
 pub reset-own : Own resetChannel
 unfolding blockReset
-reset-own = record { whole = λ m ch room. simp length-set (block-length m ch room); same = λ m m′ ch p q w e. rw e refl }
+reset-own = record { whole = λ m ch room. simp (length-set, unlist-length) (block-length m ch room); same = λ m m′ ch p q w e. rw e refl }
 
 module _ (m : List ℕ) where
   -- "stamp and counters 0", threshold and resolution as from the factory, and the count as it was

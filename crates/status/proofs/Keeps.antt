@@ -1,6 +1,6 @@
 -- The rule, the initiated test and a module reset leave a usable block usable.
 -- Assumes nothing.
-use mathlib.Core.Path.{_≡_, refl}
+use mathlib.Core.Path.{_≡_, refl, _∙_}
 use mathlib.Core.Bool.{Bool, true, false, cond}
 use mathlib.Core.List.{List}
 use Prim.Native.Nat.{ℕ, _+_, _%_, _≤_, zero-le}
@@ -9,8 +9,10 @@ use lib.Dec.{eqb}
 use lib.ListN.{set}
 use Rattle.block.specs.Layout.{word, receiveLevel, latch, enable, levelMask, Whole}
 use Rattle.block.specs.Ranges.{leasts, greatests, Usable}
+use Rattle.block.specs.Mailboxes.{unlisted}
 use Rattle.block.specs.Clearing.{stopped, unmarked, forgotten}
 use Rattle.block.proofs.Words.{words}
+use Rattle.block.proofs.Marks.{unlist-length}
 use Rattle.block.proofs.Sound.{in-range}
 use Rattle.block.proofs.Keeps.{usable-store, receive-cleared, transmit-cleared, stop-keeps, unmark-keeps, forget-keeps, factory-keeps}
 use Rattle.status.specs.Status.{bit, seven, latchBit, latched, ruled, keptBit, kept, latchCleared}
@@ -72,4 +74,4 @@ reset-keeps {b} u =
     usable-store (usable-store (usable-store f latch 0 (omega arith) refl) enable 0 (omega arith) refl) levelMask 0 (omega arith) refl
   where
     none-held : (b : List ℕ) → Whole b → word (forgotten (fifosCleared b)) receiveLevel ≡ 0
-    none-held b w = search words
+    none-held b w = let l : Whole (unlisted (word b receiveLevel) b) = unlist-length (word b receiveLevel) b ∙ w in search words depth 12

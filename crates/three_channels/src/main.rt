@@ -74,6 +74,7 @@ fn show_arrival(arrival: Arrival) {
         Arrival::Appended => write(b" appended"),
         Arrival::Dropped => write(b" dropped"),
         Arrival::Overwriting => write(b" overwrote the oldest"),
+        Arrival::AlreadyListed => write(b" already listed"),
     }
 }
 

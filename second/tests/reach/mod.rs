@@ -26,6 +26,8 @@ pub struct Words {
     pub mailbox: u32,
     /// Channels whose schedule sent a message word last.
     pub marked: usize,
+    /// The words of the entries held, the oldest first, and the status of the mailbox at each modulo 1024.
+    pub held: Vec<(u32, u32)>,
 }
 
 impl Words {
@@ -43,9 +45,19 @@ impl Words {
             command,
             stored: ch[MESSAGE_RAM + command as usize % 256],
             mailbox: ch[MAILBOXES + 3 * (item.a as usize % 1024)],
+            held: held(ch),
             marked: (1..=mem[COUNT]).filter(|&c| mem[block(c) + WORD_MARK] == 1).count(),
         })
     }
+}
+
+fn held(ch: &[u32]) -> Vec<(u32, u32)> {
+    let entry = |k: u32| {
+        let slot = ch[RECEIVE_POSITION].wrapping_add(k) as usize % SLOTS;
+        let word = ch[RECEIVE_RING + 3 * slot + 1];
+        (word, ch[MAILBOXES + 3 * (word as usize % INDEXES)])
+    };
+    (0..ch[RECEIVE_LEVEL].min(255)).map(entry).collect()
 }
 
 impl Seen {

@@ -15,4 +15,4 @@ pub read-mailbox-spec : {M : Type 1} → statement M
 read-mailbox-spec =
     tie.close
     (tie.spec (search needs) (search needs) (search needs) (search needs) (search needs) (search needs) (search needs) (search needs) (search needs)
-    (search needs) (search needs) (λ c. search needs) (search needs) (λ c. search needs) returns)
+    (search needs) (λ c κs. search needs) (search needs) (λ c. search needs) returns)

@@ -28,9 +28,13 @@ returns-6 : tie.Need-returns-6
 unfolding signalled
 returns-6 c = rw (c .enum-told5 .given .1) (cc)
 
+returns-7 : tie.Need-returns-7
+unfolding signalled
+returns-7 c = rw (c .enum-told6 .given .1) (cc)
+
 pub signal-of-spec : {M : Type 1} → statement M
 unfolding signalled
 signal-of-spec =
     tie.close
     (tie.spec (search needs) (search needs) mul-signal (search needs) (search needs) (search needs) (search needs) (search needs) returns
-    (search needs) (λ c. search branches) (λ c. search branches) returns-4 returns-5 returns-6)
+    (search needs) (search needs) (λ c. search branches) (λ c. search branches) returns-4 returns-5 returns-6 returns-7)

@@ -1,0 +1,50 @@
+// The new marks of the mailboxes, and what entries that leave the index list unread do to them.
+use crate::layout::INDEXES;
+use crate::layout::MAILBOXES;
+use crate::layout::RECEIVE_MODE;
+use crate::layout::RECEIVE_POSITION;
+use crate::layout::RECEIVE_RING;
+use crate::modes::FIFO_MODE;
+use ring::SLOTS;
+ghost use mathlib.Core.Path.{_≡_};
+ghost use Prim.Native.Nat.{_<_};
+ghost use Rattle.block.specs.Layout.{Whole, indexes};
+ghost use Rattle.block.specs.Mailboxes.{markTaken, listedIndex, marksTaken, unlisted};
+
+// The new mark, D1 of a mailbox's status.
+pub const NEW: u32 = 2;
+
+// Takes the new mark from the mailbox of an index: of its status only D0 stays.
+pub fn take_mark(block: &mut [u32], index: u32)
+    requires { ⌜ (Whole (now block)) × (index < indexes) ⌝ }
+    ensures { λ r. ⌜ now (block .exit) ≡ markTaken index (now (block .entry)) ⌝ }
+{
+    let at = MAILBOXES + 3 * (index as usize);
+    block[at] = block[at] % 2;
+}
+
+// The index that an entry of the list names, the oldest being entry 0: the entry's word may hold anything.
+fn listed_index(block: &[u32], entry: u32) -> u32
+    requires { ⌜ Whole (now block) ⌝ }
+    ensures { λ r. ⌜ r ≡ listedIndex entry (now (block .entry)) ⌝ }
+{
+    let position = block[RECEIVE_POSITION];
+    let slot = (position % SLOTS + entry % SLOTS) % SLOTS;
+    block[RECEIVE_RING + 3 * (slot as usize) + 1] % INDEXES
+}
+
+// In mailbox mode the mailboxes of the oldest `entries` entries lose their marks, oldest first.
+pub fn unlist(block: &mut [u32], entries: u32)
+    requires { ⌜ Whole (now block) ⌝ }
+    ensures { λ r. ⌜ now (block .exit) ≡ unlisted entries (now (block .entry)) ⌝ }
+{
+    if block[RECEIVE_MODE] == FIFO_MODE {
+        return;
+    }
+    let mut entry = 0;
+    while entry < entries {
+        let index = listed_index(block, entry);
+        take_mark(block, index);
+        entry += 1;
+    }
+}
