@@ -1,7 +1,8 @@
 /*
  * A dome node: it takes attitude words from one ARINC 429 channel, sends them on to the projectors by a schedule on a second, and keeps the
  * last words of the line on a third. For three frames the node is late and reads nothing: the FIFO fills and arrivals are lost, and the
- * tally of outcomes, the status and the counts of fates tell so. With the name of a file as its argument the node records the session there.
+ * tally of outcomes, the status and the counts of fates tell so. With the name of a file as its argument the node records the session there, and
+ * with a second one it keeps every arrival in that file, a capture that show_capture shows.
  *
  * Build: cc -std=c99 -Iinclude examples/node.c target/staticlib/libhost.a
  */
@@ -30,6 +31,9 @@ static nqabelihu_memory module_memory = {words, NQABELIHU_WORDS(CHANNELS)};
 
 /* What became of the words that the line has brought so far, for each receiving channel. */
 static nqabelihu_tally tallies[CHANNELS + 1];
+
+/* The capture of every arrival, or none. */
+static FILE *capture;
 
 /* A refusal in this loop is a fault of the loop: say which call, and end. */
 static void done(nqabelihu_refusal refusal, const char *call)
@@ -136,12 +140,28 @@ static void set_up(void)
 
 /* ---- one frame ---- */
 
+/* An arrival into the capture, with the stamp at this moment. */
+static void keep(uint32_t channel, uint32_t word)
+{
+    uint8_t record[NQABELIHU_ARRIVAL_BYTES];
+    size_t length = 0;
+    uint32_t stamp;
+    done(nqabelihu_read_stamp(module_memory, &stamp), "read stamp");
+    done(nqabelihu_capture_arrival(record, sizeof record, &length, channel, word, stamp), "capture arrival");
+    if (fwrite(record, 1, length, capture) != length) {
+        printf("the capture cannot be written\n");
+        exit(1);
+    }
+}
+
 /* A word of the line on a receiving channel: its outcome goes into the channel's tally. */
 static void arrives(uint32_t channel, uint32_t word)
 {
     nqabelihu_outcome outcome;
     done(nqabelihu_arrive(module_memory, channel, word, &outcome), "arrive");
     nqabelihu_tally_outcome(&tallies[channel], outcome);
+    if (capture != NULL)
+        keep(channel, word);
 }
 
 /* The line: the aircraft's simulation sends three angles and the altitude. In frame 3 a bit of the roll word is wrong. */
@@ -288,6 +308,13 @@ int main(int argc, char **argv)
         }
         nqabelihu_record(module_memory, session);
     }
+    if (argc > 2) {
+        capture = fopen(argv[2], "wb");
+        if (capture == NULL) {
+            printf("%s: cannot be written\n", argv[2]);
+            return 1;
+        }
+    }
     set_up();
     for (frame = 1; frame <= FRAMES; frame++) {
         int late = 4 <= frame && frame <= 6;
@@ -313,6 +340,10 @@ int main(int argc, char **argv)
             printf("%s: the session is not recorded whole\n", argv[1]);
             return 1;
         }
+    }
+    if (capture != NULL && fclose(capture) != 0) {
+        printf("%s: the capture is not written whole\n", argv[2]);
+        return 1;
     }
     return 0;
 }

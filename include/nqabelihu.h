@@ -135,8 +135,8 @@ enum {
 #define NQABELIHU_ROW_NAME(name, number, text) name = number,
 #define NQABELIHU_ROW_TEXT(name, number, text) NQABELIHU_CASE(number, text)
 
-/* The answer's number. 1 to 7 are tested in this order, behind 24 and then 42: the first that applies is given. 60 to 64 are those of readings,
- * tested in this order. */
+/* The answer's number. 1 to 7 are tested in this order, behind 24 and then 42: the first that applies is given. 20 to 24 are those of capture
+ * files and 60 to 64 those of readings, each tested in this order. */
 #define NQABELIHU_REFUSAL_TABLE(ROW)                                                          \
     ROW(NQABELIHU_DONE, 0, "done")                                                            \
     ROW(NQABELIHU_REFUSED_SHORT, 1, "fewer words lent than the module needs")                 \
@@ -146,7 +146,11 @@ enum {
     ROW(NQABELIHU_REFUSED_MODE, 5, "not allowed in the present setting")                      \
     ROW(NQABELIHU_REFUSED_FULL, 6, "transmit FIFO holds 255, or an async word already waits") \
     ROW(NQABELIHU_REFUSED_EMPTY, 7, "receive FIFO holds none")                                \
-    ROW(NQABELIHU_REFUSED_FEW_VALUES, 24, "fewer than seven words lent for the values")       \
+    ROW(NQABELIHU_REFUSED_CUT, 20, "a record is cut short")                                   \
+    ROW(NQABELIHU_REFUSED_LENGTH, 21, "a record of the wrong length or count of commands")    \
+    ROW(NQABELIHU_REFUSED_KIND, 22, "a record of unknown kind")                               \
+    ROW(NQABELIHU_REFUSED_RECORD_CHANNEL, 23, "a record's channel outside 1 to 12")           \
+    ROW(NQABELIHU_REFUSED_FEW_VALUES, 24, "lent output too short")                            \
     ROW(NQABELIHU_REFUSED_NO_CALL, 42, "the op is no call")                                   \
     ROW(NQABELIHU_REFUSED_WRONG_LIST, 60, "an entry of the label list is wrong or cut short") \
     ROW(NQABELIHU_REFUSED_NOT_LISTED, 61, "label not listed, or a bit field to encode")       \
@@ -881,6 +885,87 @@ int32_t nqabelihu_whole_number(const uint32_t *list, size_t numbers, uint32_t wo
 
 /* Puts a whole number into a word: the result is 0 or the refusal. encoded takes the word, whose other bits stay; 0 if refused. */
 uint32_t nqabelihu_encode_word(const uint32_t *list, size_t numbers, uint32_t word, int32_t value, uint32_t *encoded);
+
+/* ---- capture files ---- */
+
+/*
+ * Records of arrivals and schedule images, one behind the other. A record is its length (two bytes, lowest first, counting kind and body), its
+ * kind (two bytes) and its body; docs/CAPTURES.md has the format. Capture bytes are lent as a pointer and a number of bytes, by the rules above:
+ * 0 bytes may be null, and what is written overlaps neither what is read nor each other. Any bytes, offset and numbers are taken.
+ */
+/* What stands at an offset. */
+typedef enum {
+    NQABELIHU_CAPTURED_NOTHING = 0, /* the end of the bytes, or a record that is refused */
+    NQABELIHU_CAPTURED_ARRIVAL = 1, /* channel, word and stamp */
+    NQABELIHU_CAPTURED_IMAGE = 2    /* channel and the commands of its schedule */
+} nqabelihu_captured_kind;
+
+enum {
+    NQABELIHU_IMAGE_COMMANDS = 256, /* the words that reading an image needs, and the commands that writing one takes */
+    NQABELIHU_ARRIVAL_BYTES = 14,   /* the whole record of an arrival */
+    NQABELIHU_IMAGE_BYTES = 1030    /* the whole record of an image */
+};
+
+/* The kind of the record at an offset, the offset behind it, and its refusal, 20 to 23. At the end and beside a refusal the kind is 0 and the
+ * offset is the same; at the end the refusal is 0. */
+uint32_t nqabelihu_capture_kind(const uint8_t *bytes, size_t length, size_t offset);
+size_t nqabelihu_capture_offset(const uint8_t *bytes, size_t length, size_t offset);
+uint32_t nqabelihu_capture_refusal(const uint8_t *bytes, size_t length, size_t offset);
+
+/* Reads the record at an offset: the result is 0 or the refusal, 20 to 24. An image's commands go into the first NQABELIHU_IMAGE_COMMANDS words of
+ * `commands`, and those behind them are left alone; kind, next, channel, word and stamp are written always, zeros (next: the same offset) at the end
+ * and beside a refusal. */
+NQABELIHU_LOOK uint32_t nqabelihu_capture_read(const uint8_t *bytes, size_t length, size_t offset, uint32_t *commands, size_t commands_length,
+                                               uint32_t *kind, size_t *next, uint32_t *channel, uint32_t *word, uint32_t *stamp);
+
+/* Writes a record at an offset: the result is 0 or the refusal, 21 to 24. An arrival takes word and stamp and no commands, an image exactly
+ * NQABELIHU_IMAGE_COMMANDS commands. next takes the offset behind the record; beside a refusal it is 0 and no byte is written. */
+NQABELIHU_LOOK uint32_t nqabelihu_capture_write(uint8_t *bytes, size_t length, size_t offset, uint32_t kind, uint32_t channel, uint32_t word,
+                                                uint32_t stamp, const uint32_t *commands, size_t commands_length, size_t *next);
+
+/* A record that was read; an image's commands are in the words lent for them. */
+typedef struct {
+    nqabelihu_captured_kind kind;
+    uint32_t channel;
+    uint32_t word;
+    uint32_t stamp;
+} nqabelihu_captured;
+
+/* Reads the record at *offset and moves *offset on behind it. At the end the kind is NQABELIHU_CAPTURED_NOTHING; beside a refusal *offset stays. */
+NQABELIHU_LOOK static inline nqabelihu_refusal nqabelihu_next_captured(const uint8_t *bytes, size_t length, size_t *offset, uint32_t *commands,
+                                                                       size_t commands_length, nqabelihu_captured *record)
+{
+    uint32_t kind;
+    uint32_t number = nqabelihu_capture_read(bytes, length, *offset, commands, commands_length, &kind, offset, &record->channel, &record->word,
+                                             &record->stamp);
+    record->kind = (nqabelihu_captured_kind)kind;
+    return (nqabelihu_refusal)number;
+}
+
+/* Writes a record at *offset and moves *offset on behind it; beside a refusal it stays. */
+NQABELIHU_LOOK static inline nqabelihu_refusal nqabelihu_capture_(uint8_t *bytes, size_t length, size_t *offset, uint32_t kind, uint32_t channel,
+                                                                  uint32_t word, uint32_t stamp, const uint32_t *commands, size_t commands_length)
+{
+    size_t next;
+    uint32_t number = nqabelihu_capture_write(bytes, length, *offset, kind, channel, word, stamp, commands, commands_length, &next);
+    if (number == NQABELIHU_DONE)
+        *offset = next;
+    return (nqabelihu_refusal)number;
+}
+
+/* An arrival: NQABELIHU_ARRIVAL_BYTES bytes. It has no commands: nothing is read through their pointer. */
+NQABELIHU_LOOK static inline nqabelihu_refusal nqabelihu_capture_arrival(uint8_t *bytes, size_t length, size_t *offset, uint32_t channel,
+                                                                         uint32_t word, uint32_t stamp)
+{
+    return nqabelihu_capture_(bytes, length, offset, NQABELIHU_CAPTURED_ARRIVAL, channel, word, stamp, &word, 0);
+}
+
+/* A schedule image of NQABELIHU_IMAGE_COMMANDS commands: NQABELIHU_IMAGE_BYTES bytes. */
+NQABELIHU_LOOK static inline nqabelihu_refusal nqabelihu_capture_image(uint8_t *bytes, size_t length, size_t *offset, uint32_t channel,
+                                                                       const uint32_t *commands)
+{
+    return nqabelihu_capture_(bytes, length, offset, NQABELIHU_CAPTURED_IMAGE, channel, 0, 0, commands, NQABELIHU_IMAGE_COMMANDS);
+}
 
 #ifdef __cplusplus
 }

@@ -789,6 +789,111 @@ static void word_readings(void)
     is_read(list, NUMBERS, 0x694708C1, 0, NQABELIHU_READING_BINARY, 38000.5, 152002);
 }
 
+/* ---- capture files ---- */
+
+/* What stands at an offset: the refusal, the kind and the next offset, by each of the four functions; 24 is the last one's alone. */
+static void stands(const uint8_t *bytes, size_t length, size_t offset, uint32_t *lent, size_t words, uint32_t number, uint32_t kind, size_t next)
+{
+    uint32_t got, given = 99, channel = 99, word = 99, stamp = 99;
+    size_t behind = 99;
+    uint32_t seen = number == NQABELIHU_REFUSED_FEW_VALUES ? (uint32_t)NQABELIHU_CAPTURED_IMAGE : kind;
+    got = nqabelihu_capture_read(bytes, length, offset, lent, words, &given, &behind, &channel, &word, &stamp);
+    CHECK(got == number && given == kind && behind == next, "record at %lu: %u %u %lu", (unsigned long)offset, (unsigned)got, (unsigned)given,
+          (unsigned long)behind);
+    CHECK(kind != 0 || (channel == 0 && word == 0 && stamp == 0), "record at %lu: values beside no record", (unsigned long)offset);
+    CHECK(nqabelihu_capture_kind(bytes, length, offset) == seen, "kind at %lu", (unsigned long)offset);
+    if (number != NQABELIHU_REFUSED_FEW_VALUES) {
+        CHECK(nqabelihu_capture_offset(bytes, length, offset) == next, "offset behind %lu", (unsigned long)offset);
+        CHECK(nqabelihu_capture_refusal(bytes, length, offset) == number, "refusal at %lu", (unsigned long)offset);
+    }
+}
+
+/* A record that is refused on writing changes no byte. */
+static void not_written(uint8_t *bytes, size_t length, size_t offset, uint32_t kind, uint32_t channel, const uint32_t *commands, size_t count,
+                        uint32_t number)
+{
+    size_t next = 99, at;
+    for (at = 0; at < length; at++)
+        bytes[at] = 0xA5;
+    CHECK(nqabelihu_capture_write(bytes, length, offset, kind, channel, 1, 2, commands, count, &next) == number && next == 0, "not refused with %u",
+          (unsigned)number);
+    for (at = 0; at < length; at++)
+        CHECK(bytes[at] == 0xA5, "a refused write changed byte %lu", (unsigned long)at);
+}
+
+static void capture_bytes(void)
+{
+    enum { WORDS = NQABELIHU_IMAGE_COMMANDS + 1, ROOM = NQABELIHU_IMAGE_BYTES };
+    static const uint8_t example[NQABELIHU_ARRIVAL_BYTES] = {0x0C, 0, 1, 0, 1, 0, 0x23, 1, 0, 0, 5, 0, 0, 0};
+    uint8_t *bytes = (uint8_t *)between_guards(4, AT_END) + 2; /* 14 bytes before a page that may not be read */
+    uint8_t *image = (uint8_t *)between_guards(258, AT_END) + 2; /* 1030 bytes, likewise */
+    uint32_t *lent = between_guards(WORDS, AT_END);
+    uint32_t *commands = between_guards(NQABELIHU_IMAGE_COMMANDS, AT_END);
+    size_t next, at, length;
+    uint32_t kind, channel, word, stamp;
+
+    for (at = 0; at < sizeof example; at++)
+        bytes[at] = example[at];
+    stands(bytes, 14, 0, NULL, 0, 0, NQABELIHU_CAPTURED_ARRIVAL, 14);
+    stands(bytes, 14, 14, NULL, 0, 0, 0, 14);
+    stands(NULL, 0, 0, NULL, 0, 0, 0, 0);
+    stands(NULL, 0, 1, NULL, 0, NQABELIHU_REFUSED_CUT, 0, 1);
+    stands(bytes, 14, 15, NULL, 0, NQABELIHU_REFUSED_CUT, 0, 15);
+    stands(bytes, 14, SIZE_MAX, NULL, 0, NQABELIHU_REFUSED_CUT, 0, SIZE_MAX);
+    for (length = 1; length < 14; length++)
+        stands(bytes, length, 0, NULL, 0, NQABELIHU_REFUSED_CUT, 0, 0);
+    bytes[0] = 1; /* a length of 1: 21, but 20 where no byte is behind it */
+    stands(bytes, 14, 0, NULL, 0, NQABELIHU_REFUSED_LENGTH, 0, 0);
+    stands(bytes, 2, 0, NULL, 0, NQABELIHU_REFUSED_CUT, 0, 0);
+    bytes[0] = 0;
+    stands(bytes, 2, 0, NULL, 0, NQABELIHU_REFUSED_LENGTH, 0, 0);
+    bytes[0] = 11; /* wrong for a known kind */
+    stands(bytes, 14, 0, NULL, 0, NQABELIHU_REFUSED_LENGTH, 0, 0);
+    bytes[0] = 2; /* an unknown kind of any length from 2 on */
+    bytes[2] = 3;
+    stands(bytes, 14, 0, NULL, 0, NQABELIHU_REFUSED_KIND, 0, 0);
+    bytes[0] = 12;
+    bytes[2] = 0;
+    stands(bytes, 14, 0, NULL, 0, NQABELIHU_REFUSED_KIND, 0, 0);
+    bytes[2] = 1;
+    bytes[4] = 0;
+    stands(bytes, 14, 0, NULL, 0, NQABELIHU_REFUSED_RECORD_CHANNEL, 0, 0);
+    bytes[4] = 13;
+    stands(bytes, 14, 0, NULL, 0, NQABELIHU_REFUSED_RECORD_CHANNEL, 0, 0);
+
+    /* an image: its commands, one word more that stays, and one word too few */
+    for (at = 0; at < NQABELIHU_IMAGE_COMMANDS; at++)
+        commands[at] = 0x01020304 * (uint32_t)at;
+    CHECK(nqabelihu_capture_write(image, ROOM, 0, NQABELIHU_CAPTURED_IMAGE, 12, 1, 2, commands, NQABELIHU_IMAGE_COMMANDS, &next) == 0 && next == ROOM,
+          "an image written");
+    for (at = 0; at < WORDS; at++)
+        lent[at] = 0x5A5A5A5A;
+    stands(image, ROOM, 0, lent + 2, NQABELIHU_IMAGE_COMMANDS - 1, NQABELIHU_REFUSED_FEW_VALUES, 0, 0);
+    for (at = 0; at < WORDS; at++)
+        CHECK(lent[at] == 0x5A5A5A5A, "a refused image changed word %lu", (unsigned long)at);
+    stands(image, ROOM, 0, lent, WORDS, 0, NQABELIHU_CAPTURED_IMAGE, ROOM);
+    for (at = 0; at < NQABELIHU_IMAGE_COMMANDS; at++)
+        CHECK(lent[at] == commands[at], "command %lu", (unsigned long)at);
+    CHECK(lent[NQABELIHU_IMAGE_COMMANDS] == 0x5A5A5A5A, "word 257 is written");
+
+    /* writing: the example, and each refusal */
+    CHECK(nqabelihu_capture_write(bytes, 14, 0, NQABELIHU_CAPTURED_ARRIVAL, 1, 0x123, 5, NULL, 0, &next) == 0 && next == 14, "an arrival written");
+    for (at = 0; at < sizeof example; at++)
+        CHECK(bytes[at] == example[at], "byte %lu", (unsigned long)at);
+    CHECK(nqabelihu_capture_read(bytes, 14, 0, NULL, 0, &kind, &next, &channel, &word, &stamp) == 0 && channel == 1 && word == 0x123 && stamp == 5,
+          "the example's values");
+    not_written(bytes, 14, 0, NQABELIHU_CAPTURED_ARRIVAL, 1, commands, 1, NQABELIHU_REFUSED_LENGTH);
+    not_written(image, ROOM, 0, NQABELIHU_CAPTURED_IMAGE, 1, commands, NQABELIHU_IMAGE_COMMANDS - 1, NQABELIHU_REFUSED_LENGTH);
+    not_written(bytes, 14, 0, 3, 1, NULL, 0, NQABELIHU_REFUSED_KIND);
+    not_written(bytes, 14, 0, 0, 1, commands, 1, NQABELIHU_REFUSED_KIND);
+    not_written(bytes, 14, 0, NQABELIHU_CAPTURED_ARRIVAL, 0, NULL, 0, NQABELIHU_REFUSED_RECORD_CHANNEL);
+    not_written(bytes, 13, 0, NQABELIHU_CAPTURED_ARRIVAL, 13, NULL, 0, NQABELIHU_REFUSED_RECORD_CHANNEL);
+    not_written(bytes, 13, 0, NQABELIHU_CAPTURED_ARRIVAL, 1, NULL, 0, NQABELIHU_REFUSED_FEW_VALUES);
+    not_written(bytes, 14, 1, NQABELIHU_CAPTURED_ARRIVAL, 1, NULL, 0, NQABELIHU_REFUSED_FEW_VALUES);
+    not_written(bytes, 14, SIZE_MAX, NQABELIHU_CAPTURED_ARRIVAL, 1, NULL, 0, NQABELIHU_REFUSED_FEW_VALUES);
+    not_written(NULL, 0, 0, NQABELIHU_CAPTURED_ARRIVAL, 1, NULL, 0, NQABELIHU_REFUSED_FEW_VALUES);
+}
+
 int main(void)
 {
     values = between_guards(NQABELIHU_VALUES, AT_END);
@@ -807,6 +912,7 @@ int main(void)
     meanings();
     kit();
     word_readings();
+    capture_bytes();
     printf("%lu checks of the C interface\n", checks);
     return 0;
 }

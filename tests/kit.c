@@ -60,7 +60,11 @@ static const row refusals[] = {{0, "done"},
                                {5, "not allowed in the present setting"},
                                {6, "transmit FIFO holds 255, or an async word already waits"},
                                {7, "receive FIFO holds none"},
-                               {24, "fewer than seven words lent for the values"},
+                               {20, "a record is cut short"},
+                               {21, "a record of the wrong length or count of commands"},
+                               {22, "a record of unknown kind"},
+                               {23, "a record's channel outside 1 to 12"},
+                               {24, "lent output too short"},
                                {42, "the op is no call"},
                                {60, "an entry of the label list is wrong or cut short"},
                                {61, "label not listed, or a bit field to encode"},
@@ -377,6 +381,41 @@ static void recorder(void)
     }
 }
 
+/* ---- capture files ---- */
+
+/* The document's example and an image, written by name, and read one after another. */
+static void captures(void)
+{
+    static const uint8_t example[NQABELIHU_ARRIVAL_BYTES] = {0x0C, 0, 1, 0, 1, 0, 0x23, 1, 0, 0, 5, 0, 0, 0};
+    enum { LENGTH = 2 * NQABELIHU_ARRIVAL_BYTES + NQABELIHU_IMAGE_BYTES };
+    static uint8_t bytes[LENGTH];
+    static uint32_t commands[NQABELIHU_IMAGE_COMMANDS], lent[NQABELIHU_IMAGE_COMMANDS];
+    nqabelihu_captured record;
+    size_t offset = 0;
+    uint32_t at;
+    for (at = 0; at < NQABELIHU_IMAGE_COMMANDS; at++)
+        commands[at] = 0x01020304 * at;
+    CHECK(nqabelihu_capture_arrival(bytes, LENGTH, &offset, 1, 0x123, 5) == NQABELIHU_DONE && offset == sizeof example, "an arrival");
+    CHECK(memcmp(bytes, example, sizeof example) == 0, "the document's example");
+    CHECK(nqabelihu_capture_arrival(bytes, LENGTH, &offset, 13, 0x123, 5) == NQABELIHU_REFUSED_RECORD_CHANNEL && offset == sizeof example, "channel 13");
+    CHECK(nqabelihu_capture_image(bytes, LENGTH, &offset, 12, commands) == NQABELIHU_DONE, "an image");
+    CHECK(offset == sizeof example + NQABELIHU_IMAGE_BYTES, "behind the image");
+    CHECK(nqabelihu_capture_image(bytes, LENGTH, &offset, 12, commands) == NQABELIHU_REFUSED_FEW_VALUES, "no room for an image");
+    CHECK(nqabelihu_capture_arrival(bytes, LENGTH, &offset, 7, 0xFFFFFFFF, 0x80000000) == NQABELIHU_DONE && offset == LENGTH, "the last arrival");
+
+    offset = 0;
+    CHECK(nqabelihu_next_captured(bytes, LENGTH, &offset, NULL, 0, &record) == NQABELIHU_DONE && offset == sizeof example, "the example read");
+    CHECK(record.kind == NQABELIHU_CAPTURED_ARRIVAL && record.channel == 1 && record.word == 0x123 && record.stamp == 5, "its values");
+    CHECK(nqabelihu_next_captured(bytes, LENGTH, &offset, lent, NQABELIHU_IMAGE_COMMANDS - 1, &record) == NQABELIHU_REFUSED_FEW_VALUES, "255 words");
+    CHECK(record.kind == NQABELIHU_CAPTURED_NOTHING && offset == sizeof example, "the offset stays");
+    CHECK(nqabelihu_next_captured(bytes, LENGTH, &offset, lent, NQABELIHU_IMAGE_COMMANDS, &record) == NQABELIHU_DONE, "the image read");
+    CHECK(record.kind == NQABELIHU_CAPTURED_IMAGE && record.channel == 12 && record.word == 0 && record.stamp == 0, "its values");
+    CHECK(memcmp(lent, commands, sizeof lent) == 0, "its commands");
+    CHECK(nqabelihu_next_captured(bytes, LENGTH, &offset, NULL, 0, &record) == NQABELIHU_DONE && record.stamp == 0x80000000, "the last read");
+    CHECK(nqabelihu_next_captured(bytes, LENGTH, &offset, NULL, 0, &record) == NQABELIHU_DONE && record.kind == NQABELIHU_CAPTURED_NOTHING, "the end");
+    CHECK(offset == LENGTH, "the end's offset");
+}
+
 void kit(void)
 {
     fields();
@@ -389,4 +428,5 @@ void kit(void)
     losses_by_level(NQABELIHU_FIFO_KIND_CIRCULAR);
     exchanged();
     recorder();
+    captures();
 }

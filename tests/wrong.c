@@ -5,7 +5,7 @@
 #include <stddef.h>
 #include <stdint.h>
 
-#define LAST_WRONG 23
+#define LAST_WRONG 27
 
 uint32_t __real_nqabelihu_perform(uint32_t *memory, size_t words, uint32_t *values, size_t places, uint32_t op, uint32_t channel, uint32_t a,
                                   uint32_t b);
@@ -117,4 +117,44 @@ uint32_t __wrap_nqabelihu_perform(uint32_t *memory, size_t words, uint32_t *valu
         values[0] = 0;
 #endif
     return number;
+}
+
+uint32_t __real_nqabelihu_capture_read(const uint8_t *bytes, size_t length, size_t offset, uint32_t *commands, size_t places, uint32_t *kind,
+                                       size_t *next, uint32_t *channel, uint32_t *word, uint32_t *stamp);
+uint32_t __wrap_nqabelihu_capture_read(const uint8_t *bytes, size_t length, size_t offset, uint32_t *commands, size_t places, uint32_t *kind,
+                                       size_t *next, uint32_t *channel, uint32_t *word, uint32_t *stamp);
+uint32_t __wrap_nqabelihu_capture_read(const uint8_t *bytes, size_t length, size_t offset, uint32_t *commands, size_t places, uint32_t *kind,
+                                       size_t *next, uint32_t *channel, uint32_t *word, uint32_t *stamp)
+{
+    uint32_t number = __real_nqabelihu_capture_read(bytes, length, offset, commands, places, kind, next, channel, word, stamp);
+#if WRONG == 24 /* an image writes word 257 */
+    if (*kind == 2 && places > 256)
+        commands[256] = 0;
+#elif WRONG == 25 /* a refusal has offset 0 */
+    if (number != 0)
+        *next = 0;
+#endif
+    return number;
+}
+
+uint32_t __real_nqabelihu_capture_write(uint8_t *bytes, size_t length, size_t offset, uint32_t kind, uint32_t channel, uint32_t word, uint32_t stamp,
+                                        const uint32_t *commands, size_t count, size_t *next);
+uint32_t __wrap_nqabelihu_capture_write(uint8_t *bytes, size_t length, size_t offset, uint32_t kind, uint32_t channel, uint32_t word, uint32_t stamp,
+                                        const uint32_t *commands, size_t count, size_t *next);
+uint32_t __wrap_nqabelihu_capture_write(uint8_t *bytes, size_t length, size_t offset, uint32_t kind, uint32_t channel, uint32_t word, uint32_t stamp,
+                                        const uint32_t *commands, size_t count, size_t *next)
+{
+    uint32_t number = __real_nqabelihu_capture_write(bytes, length, offset, kind, channel, word, stamp, commands, count, next);
+#if WRONG == 26 /* a refused record's length is written */
+    if (number != 0 && length >= 2)
+        bytes[0] = 12;
+#endif
+    return number;
+}
+
+uint32_t __real_nqabelihu_capture_refusal(const uint8_t *bytes, size_t length, size_t offset);
+uint32_t __wrap_nqabelihu_capture_refusal(const uint8_t *bytes, size_t length, size_t offset);
+uint32_t __wrap_nqabelihu_capture_refusal(const uint8_t *bytes, size_t length, size_t offset)
+{
+    return WRONG == 27 && offset == length ? 20 : __real_nqabelihu_capture_refusal(bytes, length, offset); /* the end is answered 20 */
 }

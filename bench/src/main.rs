@@ -7,6 +7,7 @@
 //! rounds, and a ratio is the median of the ratios of rounds that ran one after the other.
 
 mod alloc;
+mod captures;
 mod lists;
 mod readings;
 
@@ -159,4 +160,6 @@ fn main() {
     );
     println!();
     readings::table();
+    println!();
+    captures::table();
 }

@@ -14,6 +14,14 @@ pub struct Item {
     pub b: u32,
 }
 
+impl Item {
+    /// The item of 16 bytes; none where they are fewer.
+    pub fn of_bytes(bytes: &[u8]) -> Option<Item> {
+        let word = |k: usize| Some(u32::from_le_bytes(bytes.get(k..k + 4)?.try_into().ok()?));
+        Some(Item { op: word(0)?, channel: word(4)?, a: word(8)?, b: word(12)? })
+    }
+}
+
 #[derive(Clone, Copy, PartialEq, Eq, Debug)]
 pub enum Call {
     PowerUp { count: u32 },

@@ -2,10 +2,13 @@
 //!
 //! The module is written twice: as a model (`model`) and on lent words (`words`). Random call lists
 //! (`lists`) run through both, and `compare` tells the first difference. Readings of a word by a label list
-//! (`readings`) have a comparison of their own.
+//! (`readings`) and capture files (`captures`) have a comparison of their own.
 
 pub mod calls;
+pub mod capture_programs;
+pub mod captures;
 pub mod compare;
+pub mod compare_captures;
 pub mod compare_readings;
 pub mod engine;
 pub mod layout;
@@ -16,7 +19,10 @@ pub mod ops;
 #[cfg(feature = "proved")]
 pub mod proved;
 #[cfg(feature = "proved")]
+pub mod proved_captures;
+#[cfg(feature = "proved")]
 pub mod proved_readings;
+pub mod random_captures;
 pub mod reading;
 pub mod readings;
 pub mod spacing;

@@ -1,19 +1,28 @@
 //! `second compare --calls N --seed S`: the model against the words on random call lists.
 //! `second compare-proved --calls N --seed S` (feature `proved`): the words against the proved library, answers and the whole memory.
 //! `second readings --seed S` (feature `proved`): readings of words against the proved library.
+//! `second captures --seed S` (feature `proved`): capture files against the proved library.
 //! `second list --calls N --seed S`: the same random calls as 16-byte items, for a program that reads them.
 //! `second replay`: performs a list of 16-byte items from standard input, one answer line for each.
+//! `second show-capture`: the records of a capture from standard input, one line for each.
+//! `second make-capture`: performs 16-byte items from standard input, and writes the capture of their arrivals.
+//! `second random-capture --records N --bad NUMBER --seed S`: a random capture with images, and behind it a record refused with that
+//! number (0: none); with `--long-bad` it is as long as it can be.
 
 use std::io::{self, Read, Write};
 use std::process::ExitCode;
 use std::time::Instant;
 
+use second::calls::{Item, NO_CALL};
+use second::capture_programs::{make, show};
 use second::compare::{compare, LIST_CALLS};
 use second::engine::{AsModel, Engine, OnWords};
 use second::layout::need;
-use second::lists::{lists, Event};
+use second::lists::{lists, Dice, Event};
 
-const USE: &str = "second compare --calls N --seed S | second list --calls N --seed S | second replay";
+const USE: &str = "second compare --calls N --seed S | list --calls N --seed S | replay
+    | show-capture | make-capture | random-capture --records N (--bad | --long-bad) NUMBER --seed S
+with the feature `proved` also: compare-proved --calls N --seed S | readings --seed S | captures --seed S";
 
 fn main() -> ExitCode {
     let args: Vec<String> = std::env::args().skip(1).collect();
@@ -33,11 +42,26 @@ fn main() -> ExitCode {
             Ok(seed) => readings(seed),
             _ => wrong_use(),
         },
+        #[cfg(feature = "proved")]
+        ["captures", "--seed", seed] => match seed.parse() {
+            Ok(seed) => captures(seed),
+            _ => wrong_use(),
+        },
         ["list", "--calls", calls, "--seed", seed] => match (calls.parse(), seed.parse()) {
             (Ok(calls), Ok(seed)) => written("list", write_list(calls, seed)),
             _ => wrong_use(),
         },
         ["replay"] => written("replay", replay()),
+        ["show-capture"] => written("show-capture", piped(show)),
+        ["make-capture"] => written("make-capture", piped(make)),
+        ["random-capture", "--records", records, bad @ ("--bad" | "--long-bad"), number, "--seed", seed] => {
+            match (records.parse(), number.parse(), seed.parse()) {
+                (Ok(records), Ok(number), Ok(seed)) => {
+                    written("random-capture", random_capture(records, number, *bad == "--long-bad", seed))
+                }
+                _ => wrong_use(),
+            }
+        }
         _ => wrong_use(),
     }
 }
@@ -96,6 +120,28 @@ fn readings(seed: u64) -> ExitCode {
     }
 }
 
+/// Compares capture files with those of the proved library and prints what was seen.
+#[cfg(feature = "proved")]
+fn captures(seed: u64) -> ExitCode {
+    use second::compare_captures::{compare, shown, OwnCaptures};
+    let start = Instant::now();
+    match compare(200_000, seed, &mut OwnCaptures, &mut second::proved_captures::ProvedCaptures) {
+        Ok(seen) => {
+            let captures = format!("{} random captures, {} with images", seen.captures, seen.with_images);
+            let cuts = format!("{} of them cut at each of {} bytes", seen.cut, seen.cuts);
+            let answers = format!("read ({}), written ({})", shown(&seen.read), shown(&seen.written));
+            let again = format!("{} lists and {} captures there and back", seen.lists_again, seen.bytes_again);
+            let seconds = start.elapsed().as_secs_f64();
+            println!("captures: {captures}, {cuts}; {answers}; {again}, {seconds:.2} s, no difference");
+            ExitCode::SUCCESS
+        }
+        Err(difference) => {
+            println!("difference in captures, first this program, second the proved library: {difference}");
+            ExitCode::FAILURE
+        }
+    }
+}
+
 /// The calls of one random list of the seed after the other, until there are enough.
 fn write_list(calls: u64, seed: u64) -> io::Result<()> {
     let mut out = io::BufWriter::new(io::stdout().lock());
@@ -116,19 +162,40 @@ fn write_list(calls: u64, seed: u64) -> io::Result<()> {
     out.flush()
 }
 
-/// Memory for twelve channels starts as all zeros. A cut last item is no call.
-fn replay() -> io::Result<()> {
+fn whole_input() -> io::Result<Vec<u8>> {
     let mut bytes = vec![];
     io::stdin().lock().read_to_end(&mut bytes)?;
+    Ok(bytes)
+}
+
+/// A program from standard input to standard output.
+fn piped(program: fn(&[u8], &mut io::BufWriter<io::Stdout>) -> io::Result<()>) -> io::Result<()> {
+    let mut out = io::BufWriter::new(io::stdout());
+    program(&whole_input()?, &mut out)?;
+    out.flush()
+}
+
+/// Arrivals and images, and behind them a record that is refused with this number.
+fn random_capture(records: u32, bad: u32, long: bool, seed: u64) -> io::Result<()> {
+    use second::random_captures::{arrival, bytes_of, image, refused_with};
+    let mut dice = Dice::new(seed);
+    let mut out = io::BufWriter::new(io::stdout().lock());
+    for _ in 0..records {
+        let record = if dice.chance(50) { image(&mut dice) } else { arrival(&mut dice) };
+        out.write_all(&bytes_of(&[record]).0)?;
+    }
+    out.write_all(&refused_with(bad, long))?;
+    out.flush()
+}
+
+/// Memory for twelve channels starts as all zeros. A cut last item is no call.
+fn replay() -> io::Result<()> {
     let mut mem = vec![0; need(12)];
     let mut out = io::BufWriter::new(io::stdout().lock());
-    for item in bytes.chunks(16) {
-        let answer = match item.len() {
-            16 => {
-                let word = |k: usize| u32::from_le_bytes([item[k], item[k + 1], item[k + 2], item[k + 3]]);
-                OnWords.perform(&mut mem, word(0), word(4), word(8), word(12))
-            }
-            _ => vec![42],
+    for item in whole_input()?.chunks(16) {
+        let answer = match Item::of_bytes(item) {
+            Some(Item { op, channel, a, b }) => OnWords.perform(&mut mem, op, channel, a, b),
+            None => vec![NO_CALL],
         };
         let line: Vec<String> = answer.iter().map(u32::to_string).collect();
         writeln!(out, "{}", line.join(" "))?;

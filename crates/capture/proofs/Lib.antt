@@ -1,0 +1,9 @@
+pub mod Images
+pub mod Parts
+pub mod Put
+pub mod Sizes
+pub mod Sound
+pub mod Stores
+pub mod Theorems
+pub mod Told
+pub mod Writable
