@@ -223,7 +223,8 @@ typedef enum { NQABELIHU_FORM_TABLE(NQABELIHU_ROW_NAME) } nqabelihu_form;
 typedef enum { NQABELIHU_CONDITION_TABLE(NQABELIHU_ROW_NAME) } nqabelihu_condition;
 enum { NQABELIHU_ALL_CONDITIONS = 127 };
 
-/* Bits of a received entry's status: an even count of ones; of a mailbox, not read since it was written. */
+/* Bits of a received entry's status: an even count of ones; of a mailbox, the new mark: since an arrival set it the mailbox was not read, and no
+ * entry of its index was overwritten or cleared. */
 enum { NQABELIHU_ENTRY_PARITY_ERROR = 1, NQABELIHU_ENTRY_NEW = 2 };
 
 /* Commands of the schedule RAM: a code, with the address that it names in its low bits. */
@@ -477,8 +478,9 @@ NQABELIHU_LOOK static inline nqabelihu_refusal nqabelihu_power_up(nqabelihu_memo
     return nqabelihu_do_(memory, NQABELIHU_OP_POWER_UP, 0, count, 0);
 }
 
-/* FIFOs cleared, async words dropped, transmitters idle, factory settings, stamp, fault counters and latches 0. Match sets, mailboxes,
- * both RAMs and the counts of fates stay. */
+/* FIFOs cleared (in mailbox mode the mailboxes of the listed indices lose their new marks first), async words dropped, transmitters idle, what
+ * the schedules sent last forgotten, factory settings, stamp, fault counters and latches 0. Match sets, mailboxes (those marks aside), both
+ * RAMs and the counts of fates stay. */
 NQABELIHU_LOOK static inline nqabelihu_refusal nqabelihu_module_reset(nqabelihu_memory memory)
 {
     return nqabelihu_do_(memory, NQABELIHU_OP_MODULE_RESET, 0, 0, 0);

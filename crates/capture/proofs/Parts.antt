@@ -56,7 +56,7 @@ part b at n = take n (drop at b)
 pub part-add : (b : List ℕ) (at m n : ℕ) → part b at (m + n) ≡ part b at m ++ part b (at + m) n
 part-add b at m n = take-add m n (drop at b) ∙ ap (λ l. part b at m ++ take n l) (drop-drop m at b)
 
-below-at : (b : List ℕ) (i : ℕ) → Below 256 b → getD b i 0 < 256
+pub below-at : (b : List ℕ) (i : ℕ) → Below 256 b → getD b i 0 < 256
 below-at [] i f = omega arith
 below-at (x ∷ b) zero f = f .0
 below-at (x ∷ b) (suc i) f = below-at b i (f .1)

@@ -1,6 +1,6 @@
 -- Whole captures: reading what was written, writing what was read, and that a reading ends.
 -- Assumes nothing.
-use Prim.Native.Nat.{ℕ, zero, suc, _+_, _*_, _-_, _<_, _≤_}
+use Prim.Native.Nat.{ℕ, zero, suc, _+_, _*_, _-_, _^_, _<_, _≤_}
 use mathlib.Core.Path.{_≡_, refl, ap, ap₂, sym, _∙_}
 use mathlib.Core.Bool.{Bool, true, false, cond}
 use mathlib.Core.List.{List, [], _∷_, _++_, append-nil}
@@ -8,17 +8,17 @@ use native.Mathlib.Omega.{arith}
 use borrow.Author.Tests.{eqb-true, eqb-false, eq-eqb, ne-eqb, le-ltb}
 use lib.Dec.{eqb, ltb}
 use lib.ListN.{length, take, drop, length-append, length-drop, take-append-drop}
-use lib.Seq.{sets, length-take-le, length-sets, drop-length, drop-drop}
+use lib.Seq.{sets, sets-eq, length-take-le, length-sets, drop-length, drop-drop}
 use Rattle.little_endian.specs.LittleEndian.{halfAt, wordAt, two, four}
 use Rattle.capture.specs.Format.{Record, made, arrival, commandsOf, lentWords, known, lengthOf, half, whole, fours, bodyOf, bytesOf}
-use Rattle.capture.specs.Read.{lengthAt, kindAt, channelAt, bodyAt, commandsAt, cutOf, kindRefusal, channelRefusal, refusalAt, nothing, foundAt, seenAt, readAt, lentAfter}
-use Rattle.capture.specs.Captures.{Below, Valid, AllValid, Reading, captureOf, recordOf, ended, before, readFrom, writeFrom}
+use Rattle.capture.specs.Read.{lengthAt, kindAt, channelAt, bodyAt, wordsAt, commandsAt, cutOf, kindRefusal, channelRefusal, refusalAt, nothing, foundAt, seenAt, readAt, lentAfter}
+use Rattle.capture.specs.Captures.{Below, Valid, AllValid, Reading, captureOf, recordOf, ended, before, readFrom, readAll, writeFrom}
 use Rattle.capture.specs.Write.{countRefusal, roomRefusal, writeRefusal, refusalOf, written, bytesAfter}
 use Rattle.capture.specs.Laws.{ReadsWhatWasWritten, WritesWhatWasRead, WritesOneAfterAnother, MovesOn, Stays, Ends, Example}
 use Rattle.capture.specs.declared.reading.Answer.{Answer}
 use Rattle.capture.proofs.Sizes.{few}
 use Rattle.capture.proofs.Sound.{Sound, sound}
-use Rattle.capture.proofs.Parts.{Has, has-left, has-right, part, part-add, two-back, four-back, fours-back}
+use Rattle.capture.proofs.Parts.{below-at, Has, has-left, has-right, part, part-add, two-back, four-back, fours-back}
 use Rattle.capture.proofs.Stores.{sets-append, length-words}
 use Rattle.capture.proofs.Told.{known-is, length-bytes, readable, taken, reads, record-is}
 
@@ -224,9 +224,53 @@ write-back (suc n) b at lent f m l z =
     of a (bad r q) is rest z = absurd (r (rw q at z))
     of a (good s q) is rest z = rw q (good-back n b at lent f m l s (sym is ∙ q) rest (rw q at z))
 
-pub writes-what-was-read : WritesWhatWasRead
-unfolding WritesWhatWasRead
-writes-what-was-read b lent f m z = write-back (suc (length b)) b 0 lent f m (omega arith) z
+-- ---- every record that was read can be written
+
+-- four bytes make a number of 32 bits
+word-below : (b : List ℕ) (at : ℕ) → Below 256 b → wordAt b at < 2 ^ 32
+unfolding wordAt
+word-below b at f = omega (arith, below-at b at f, below-at b (at + 1) f, below-at b (at + 2) f, below-at b (at + 3) f)
+
+words-below : (b : List ℕ) (at n : ℕ) → Below 256 b → Below (2 ^ 32) (wordsAt b at n)
+words-below b at zero f = tt
+words-below b at (suc n) f = (word-below b at f, words-below b (at + whole) n f)
+
+valid-at : (b : List ℕ) (at : ℕ) → Below 256 b → Sound b at → Valid (recordAt b at)
+valid-at b at f s =
+    record {
+      is-known = s .is-known;
+      counted = length-words b (bodyAt at) (commandsOf (kindAt b at));
+      low = s .low;
+      high = s .high;
+      word-fits = either (eqb (kindAt b at) arrival) (word-below b (bodyAt at) f);
+      stamp-fits = either (eqb (kindAt b at) arrival) (word-below b (bodyAt at + whole) f);
+      commands-fit = words-below b (bodyAt at) (commandsOf (kindAt b at)) f;
+      image-plain = λ n. rw (ne-eqb (kindAt b at) arrival n) (refl, refl);
+    }
+  where
+    either : (t : Bool) {x : ℕ} → x < 2 ^ 32 → cond t x 0 < 2 ^ 32
+    either true h = h
+    either false h = omega arith
+
+good-valid : (n : ℕ) (b : List ℕ) (at : ℕ) (lent : List ℕ) → Below 256 b → lentWords ≤ length lent → Sound b at → readAt b at (length lent) ≡ foundAt b at
+    → ((x : ℕ) → AllValid (readFrom n b x (lentAfter b at lent) .records)) → AllValid (after n b (lentAfter b at lent) (foundAt b at) .records)
+unfolding foundAt
+good-valid n b at lent f m s e rest =
+    let k : kindAt b at ≡ 0 → ⊥ = λ q. omega (arith, known-is (kindAt b at) (s .is-known) .0) in
+    rw (ne-eqb (kindAt b at) 0 k, lent-is b at lent m e) (valid-at b at f s, rest (at + half + lengthAt b at))
+
+all-valid : (n : ℕ) (b : List ℕ) (at : ℕ) (lent : List ℕ) → Below 256 b → lentWords ≤ length lent → AllValid (readFrom n b at lent .records)
+unfolding readFrom
+all-valid zero b at lent f m = tt
+all-valid (suc n) b at lent f m =
+    of (readAt b at (length lent)) (rw (← readable b at (length lent) m) at (view b at)) refl
+    (λ x. all-valid n b x (lentAfter b at lent) f (rw (same-lent b at lent) m))
+  where
+    of : (a : Answer) → At b at a → a ≡ readAt b at (length lent) → ((x : ℕ) → AllValid (readFrom n b x (lentAfter b at lent) .records))
+        → AllValid (after n b (lentAfter b at lent) a .records)
+    of a (the-end e q) is rest = rw q tt
+    of a (bad r q) is rest = rw q tt
+    of a (good s q) is rest = rw q (good-valid n b at lent f m s (sym is ∙ q) rest)
 
 -- ---- writing one record after another
 
@@ -270,8 +314,24 @@ writes-one-after-another b at (r ∷ rs) v h =
       p,
     ) refl
 
+pub writes-what-was-read : WritesWhatWasRead
+unfolding WritesWhatWasRead WritesOneAfterAnother
+writes-what-was-read b lent out f m long z =
+    let rs : List Record = readAll b lent .records in
+    let is : captureOf rs ≡ b = write-back (suc (length b)) b 0 lent f m (omega arith) z in
+    let l : length (captureOf rs) ≡ length b = ap length is in
+    let w = writes-one-after-another out 0 rs (all-valid (suc (length b)) b 0 lent f m) (omega arith) in
+    let o : 0 + length (captureOf rs) ≡ length b = omega arith in
+    (is, w ∙ rw (o, is, all-set) refl)
+  where
+    -- as many bytes as there were, all of them stored
+    all-set : sets out 0 b ≡ b
+    all-set =
+        let n : 0 + length b ≡ length out = omega (arith, long) in
+        sets-eq b out 0 (omega (arith, long)) ∙ ap (λ (k : ℕ). b ++ drop k out) n ∙ ap (λ (r : List ℕ). b ++ r) (drop-length out) ∙ append-nil b
+
 -- ---- the paper's example
 
 pub example : Example
 unfolding Example bytesOf bodyOf two four readAt seenAt refusalAt cutOf kindRefusal channelRefusal foundAt halfAt wordAt known lengthOf commandsOf
-example = (refl, refl, refl)
+example = (refl, refl, refl, refl)

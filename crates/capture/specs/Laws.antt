@@ -13,10 +13,11 @@ unfoldable pub ReadsWhatWasWritten : Type 0
 ReadsWhatWasWritten = (rs : List Record) (lent : List ℕ) → AllValid rs → lentWords ≤ length lent
     → readAll (captureOf rs) lent ≡ record { records = rs; number = 0; offset = length (captureOf rs) }
 
--- "and writing what was read the same bytes": for all bytes whose reading ends with 0
+-- "and writing what was read the same bytes": for all bytes whose reading ends with 0, the records are those bytes, and `write`, called for one
+-- after another on as many bytes, whatever they hold, leaves them
 unfoldable pub WritesWhatWasRead : Type 0
-WritesWhatWasRead = (b lent : List ℕ) → Below 256 b → lentWords ≤ length lent → readAll b lent .number ≡ 0
-    → captureOf (readAll b lent .records) ≡ b
+WritesWhatWasRead = (b lent out : List ℕ) → Below 256 b → lentWords ≤ length lent → length out ≡ length b → readAll b lent .number ≡ 0
+    → (captureOf (readAll b lent .records) ≡ b) × (writeFrom out 0 (readAll b lent .records) ≡ record { number = 0; offset = length b; bytes = b })
 
 -- the bytes of a list of records are those that `write` leaves, called for one after another
 unfoldable pub WritesOneAfterAnother : Type 0
@@ -43,8 +44,9 @@ exampleBytes = 12 ∷ 0 ∷ 1 ∷ 0 ∷ 1 ∷ 0 ∷ 35 ∷ 1 ∷ 0 ∷ 0 ∷ 5 �
 abbrev pub exampleRecord : Record
 exampleRecord = made 1 1 291 5 []
 
--- written, and read with no lent words
+-- written, and read with no lent words; and how an image begins, of channel 12 with the command 0x6100, were it one command long
 unfoldable pub Example : Type 0
 Example = (bytesOf exampleRecord ≡ exampleBytes)
     × (readAt exampleBytes 0 0 ≡ record { number = 0; kind = 1; next = record { offset = 14 }; channel = 1; word = 291; stamp = 5 })
     × (readAt exampleBytes 14 0 ≡ nothing 0 14)
+    × (bytesOf (made 2 12 0 0 (0x6100 ∷ [])) ≡ 8 ∷ 0 ∷ 2 ∷ 0 ∷ 12 ∷ 0 ∷ 0 ∷ 0x61 ∷ 0 ∷ 0 ∷ [])

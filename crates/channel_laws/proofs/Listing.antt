@@ -50,21 +50,12 @@ use Rattle.channel_calls.specs.declared.calls.Given.{Given}
 use Rattle.channel_calls.specs.declared.calls.Answer.{Answer}
 use Rattle.channel.specs.Channel.{didAnswer, didLeave, answerShown, blockAnswer, blockAfter}
 use Rattle.channel_laws.specs.Effects.{effect, settingChange}
-use Rattle.channel_laws.specs.Listing.{names, namesAny, inFifoMode, markBy, readsMailbox}
+use Rattle.channel_laws.specs.Listing.{ListedBy, names, namesAny, inFifoMode, markBy, readsMailbox}
 use Rattle.channel_laws.proofs.Marks.{at, among, among-held, names-at, same-mark, taken-mark, unlist-mark, mail-mark, mark-set, mark-clear}
 use Rattle.channel_laws.proofs.Holds.{kept-setting}
 use Rattle.channel_laws.proofs.Resets.{first-zero}
 
 -- ---- what an arrival's outcome tells of the mark
-
--- already listed exactly where the mark was set, of those that get so far
-abbrev pub ListedBy : Bool → Arrival → Type 0
-ListedBy t Ignored = Unit
-ListedBy t Filtered = Unit
-ListedBy t Appended = t ≡ false
-ListedBy t Dropped = t ≡ false
-ListedBy t Overwriting = t ≡ false
-ListedBy t AlreadyListed = t ≡ true
 
 listed-by : (w : ℕ) (b : List ℕ) → ListedBy (listed w b) (arrival w b)
 unfolding arrival

@@ -1,5 +1,6 @@
 -- The new mark of a mailbox, by what a call does to the index list (paper 02 (v)).
 use Prim.Native.Nat.{ℕ, _+_, _%_}
+use mathlib.Core.Path.{_≡_}
 use mathlib.Core.List.{List, [], _∷_}
 use mathlib.Core.Bool.{Bool, true, false, _||_, cond}
 use lib.Dec.{eqb}
@@ -7,6 +8,8 @@ use lib.ListN.{getD}
 use Rattle.block.specs.Layout.{word, receiveMode, indexes}
 use Rattle.block.specs.Modes.{fifoMode}
 use Rattle.block.specs.Fifos.{Change, Stays, Adds, Overwrites, Takes, Clears, Begins}
+use Rattle.receive.specs.declared.Arrival.{Arrival}
+use Rattle.receive.specs.declared.Arrival.the-variants.{Ignored, Filtered, Appended, Dropped, Overwriting, AlreadyListed}
 use Rattle.channel_calls.specs.declared.calls.ReceiveCall.the-variants.{Arrive, ReadFifo, ReadMailbox}
 use Rattle.channel_calls.specs.declared.calls.ChannelCall.{ChannelCall}
 use Rattle.channel_calls.specs.declared.calls.ChannelCall.the-variants.{Settings, Memories, Status, Tests, Reads, Receive, Transmit}
@@ -38,6 +41,15 @@ markBy fifo (Overwrites e) held i t = cond fifo t (cond (names i e) true (cond (
 markBy fifo (Takes e) held i t = t
 markBy fifo Clears held i t = cond fifo t (cond (namesAny i held) false t)
 markBy fifo Begins held i t = false
+
+-- "An index is now appended only if its mailbox did not already have the new mark.": what an arrival's outcome tells of the mark t before it
+abbrev pub ListedBy : Bool → Arrival → Type 0
+ListedBy t Ignored = Unit
+ListedBy t Filtered = Unit
+ListedBy t Appended = t ≡ false
+ListedBy t Dropped = t ≡ false
+ListedBy t Overwriting = t ≡ false
+ListedBy t AlreadyListed = t ≡ true
 
 -- "Reading a mailbox .. clears D1"
 abbrev pub readsMailbox : ChannelCall → ℕ → Bool

@@ -25,10 +25,10 @@ use Rattle.channel_calls.specs.declared.calls.ChannelCall.the-variants.{Reads, 
 use Rattle.channel_calls.specs.declared.calls.Answer.{Answer}
 use Rattle.channel_calls.specs.declared.calls.Answer.the-variants.{Done, Arrived}
 use Rattle.channel_laws.specs.Effects.{byAnswer, nothing, effect}
-use Rattle.channel_laws.specs.Listing.{inFifoMode, markBy, readsMailbox}
+use Rattle.channel_laws.specs.Listing.{ListedBy, inFifoMode, markBy, readsMailbox}
 use Rattle.channel_laws.proofs.Holds.{kept-setting}
 use Rattle.channel_laws.proofs.Marks.{same-mark}
-use Rattle.channel_laws.proofs.Listing.{ListedBy, new-by, call-mark, reset-mark, first-mark}
+use Rattle.channel_laws.proofs.Listing.{new-by, call-mark, reset-mark, first-mark}
 use Rattle.frame.specs.Layout.{count, block}
 use Rattle.power.specs.Power.{powered}
 use Rattle.power.proofs.Laws.{powered-block}

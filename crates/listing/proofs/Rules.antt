@@ -26,8 +26,8 @@ use Rattle.channel_calls.specs.declared.calls.ChannelCall.the-variants.{Setting
 use Rattle.channel_calls.specs.declared.calls.Answer.{Answer}
 use Rattle.channel_calls.specs.declared.calls.Answer.the-variants.{Done, Refused, Value, Waiting, Fates, Arrived, Entry, Stepped}
 use Rattle.channel_laws.specs.Effects.{settingChange, arriveChange, readChange, nothing, effect}
-use Rattle.channel_laws.specs.Listing.{names, namesAny, timesListed, inFifoMode, markBy, readsMailbox}
-use Rattle.channel_laws.proofs.Listing.{ListedBy, names-entry}
+use Rattle.channel_laws.specs.Listing.{ListedBy, names, namesAny, timesListed, inFifoMode, markBy, readsMailbox}
+use Rattle.channel_laws.proofs.Listing.{names-entry}
 use Rattle.module.specs.declared.calls.Call.{Call}
 use Rattle.module.specs.declared.calls.Call.the-variants.{PowerUp, Reset, Wide, On}
 use Rattle.fates.specs.History.{History, isRefused, acceptedEffect, effectBy, effectOn, history}

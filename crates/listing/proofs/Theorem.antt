@@ -14,6 +14,7 @@ use Rattle.channel_calls.specs.Refusals.{above}
 use Rattle.channel_calls.specs.declared.calls.ReceiveCall.the-variants.{ReadMailbox}
 use Rattle.channel_calls.specs.declared.calls.ChannelCall.the-variants.{Receive}
 use Rattle.channel_calls.specs.declared.calls.Answer.{Answer}
+use Rattle.channel_laws.specs.Listing.{ListedBy}
 use Rattle.frame.specs.Layout.{count, need, block}
 use Rattle.module.specs.OnChannel.{onRefusal}
 use Rattle.module.specs.Perform.{answer}
@@ -31,7 +32,7 @@ use Rattle.fates.proofs.Along.{along}
 use Rattle.listing.specs.Marks.{marked}
 use Rattle.listing.specs.Theorem.{Shows, Reliable, MailboxRules}
 use Rattle.listing.proofs.Marks.{Holds, marks, Told}
-use Rattle.listing.proofs.Rules.{mark-stays, listed-once, listed-few}
+use Rattle.listing.proofs.Rules.{told-at, mark-stays, listed-once, listed-few}
 
 -- a mailbox read shows the stored mark
 reads-mark : {m : List ℕ} → Sane m → (ch i : ℕ) → 1 ≤ ch → ch ≤ word m count → i < indexes
@@ -73,6 +74,9 @@ module _ (m : List ℕ) (calls : List (ℕ × Call)) (s : Started m calls) (ch i
   reliable =
       record {
         shown = shown;
+        by-mark = λ later before e is x.
+            subst (λ (j : ℕ). ListedBy (marked ch j before) (x .outcome)) (x .of-index)
+            (told-at ch i later before e (subst Told is (p .told)) ch (x .word) (x .call) (x .mode) (x .outcome) (x .answer));
         once = λ later between before e f is x y u. listed-once ch i below later between before e f (subst Told is (p .told)) x y u;
         few = λ mode. listed-few ch i below (events m calls) (p .told) mode;
         stays = λ later before e is x u. ap (marked ch i) is ∙ mark-stays ch i below later before e (subst Told is (p .told)) x u;

@@ -15,7 +15,7 @@ use Rattle.channel_calls.specs.declared.calls.ReceiveCall.the-variants.{Arrive,
 use Rattle.channel_calls.specs.declared.calls.ChannelCall.the-variants.{Receive}
 use Rattle.channel_calls.specs.declared.calls.Answer.{Answer}
 use Rattle.channel_calls.specs.declared.calls.Answer.the-variants.{Arrived, Entry}
-use Rattle.channel_laws.specs.Listing.{names, namesAny, timesListed, inFifoMode}
+use Rattle.channel_laws.specs.Listing.{ListedBy, names, namesAny, timesListed, inFifoMode}
 use Rattle.frame.specs.Layout.{need}
 use Rattle.module.specs.declared.calls.Call.{Call}
 use Rattle.module.specs.declared.calls.Call.the-variants.{On}
@@ -101,6 +101,9 @@ module _ (m : List ℕ) (calls : List (ℕ × Call)) (ch i : ℕ) where
   pub record Reliable : Type 0 where
     -- the mark that the calls and answers tell is what a mailbox read shows after the list, lent any number of words that suffices
     pub shown : (n : ℕ) → need (history (events m calls) .count) ≤ n → Shows (answerBehind m calls n (On ch (Receive (ReadMailbox i)))) (marked ch i (events m calls))
+    -- an arrival of the index in mailbox mode that is neither ignored nor filtered is answered already listed exactly where its mark was set
+    pub by-mark : (later before : List (Call × Answer)) (e : Call × Answer) → events m calls ≡ later ++ (e ∷ before)
+        → (x : Arrives (λ o. Unit) ch i e before) → ListedBy (marked ch i before) (x .outcome)
     -- (a) between two arrivals of the index answered appended or overwriting, its mailbox was read, or an entry of that index was overwritten
     -- or cleared
     pub once : (later between before : List (Call × Answer)) (e f : Call × Answer) → events m calls ≡ later ++ (e ∷ (between ++ (f ∷ before)))

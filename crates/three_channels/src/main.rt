@@ -236,7 +236,7 @@ fn overrun(mem: &mut [u32]) {
     status(mem, 3);
 }
 
-// The words that three channels need: 56 KiB.
+// The words that three channels need: below 64 KiB.
 const NEED: usize = MODULE_WORDS + 3 * WORDS;
 
 fn main() {
