@@ -7,7 +7,8 @@ use crate::layout::RECEIVE_RING;
 use crate::modes::FIFO_MODE;
 use ring::SLOTS;
 ghost use mathlib.Core.Path.{_≡_};
-ghost use Prim.Native.Nat.{_<_};
+ghost use Prim.Native.Nat.{_+_, _%_, _<_};
+ghost use Rattle.ring.specs.Ring.{slots};
 ghost use Rattle.block.specs.Layout.{Whole, indexes};
 ghost use Rattle.block.specs.Mailboxes.{markTaken, listedIndex, marksTaken, unlisted};
 
@@ -23,14 +24,20 @@ pub fn take_mark(block: &mut [u32], index: u32)
     block[at] = block[at] % 2;
 }
 
+// The slot of an entry of the list, the oldest being entry 0 in the slot of the position: the sum of two 32-bit numbers fits in 64 bits.
+fn slot_of(position: u32, entry: u32) -> usize
+    ensures { λ r. ⌜ r ≡ (position + entry) % slots ⌝ }
+{
+    (((position as u64) + (entry as u64)) % (SLOTS as u64)) as usize
+}
+
 // The index that an entry of the list names, the oldest being entry 0: the entry's word may hold anything.
 fn listed_index(block: &[u32], entry: u32) -> u32
     requires { ⌜ Whole (now block) ⌝ }
     ensures { λ r. ⌜ r ≡ listedIndex entry (now (block .entry)) ⌝ }
 {
-    let position = block[RECEIVE_POSITION];
-    let slot = (position % SLOTS + entry % SLOTS) % SLOTS;
-    block[RECEIVE_RING + 3 * (slot as usize) + 1] % INDEXES
+    let slot = slot_of(block[RECEIVE_POSITION], entry);
+    block[RECEIVE_RING + 3 * slot + 1] % INDEXES
 }
 
 // In mailbox mode the mailboxes of the oldest `entries` entries lose their marks, oldest first.
