@@ -30,7 +30,8 @@
  *     two channels of one module may not: lend a module to one thread at a time.
  *   - Lend a module's memory from its first word on. Between calls it is yours to copy, save and compare. Whatever you put there is never
  *     undefined behaviour: a call that meets a stored number outside its range, in the module part or on its channel (module-wide: on any
- *     channel), is refused with NQABELIHU_REFUSED_UNSOUND; power-up writes every needed word anew.
+ *     channel), is refused with NQABELIHU_REFUSED_UNSOUND; power-up writes every needed word anew. The module part has a layout number: memory
+ *     that a library of another layout left is refused, with NQABELIHU_REFUSED_SHORT or NQABELIHU_REFUSED_UNSOUND, and is not converted.
  *
  * +-- How a host sees every loss ----------------------------------------------------------------------------------------------------------+
  * | A full bounded FIFO drops the arrival, a full circular one overwrites its oldest entry. The counts of fates tell of the overwritten    |
@@ -108,11 +109,11 @@ uint32_t nqabelihu_index_of_label(uint32_t label, uint32_t sdi); /* that of the 
 
 enum {
     NQABELIHU_MOST_CHANNELS = 12,
-    NQABELIHU_MODULE_WORDS = 16,    /* the module part */
-    NQABELIHU_CHANNEL_WORDS = 4667, /* each channel */
+    NQABELIHU_MODULE_WORDS = 17,    /* the module part */
+    NQABELIHU_CHANNEL_WORDS = 4923, /* each channel */
     NQABELIHU_FIFO_ENTRIES = 255,   /* the most that a FIFO holds */
     NQABELIHU_MAILBOXES = 1024,     /* mailboxes, and places of the match set: one for each SDI/Label index */
-    NQABELIHU_SCHEDULE_WORDS = 256, /* commands of the schedule RAM: addresses from 0 to one less */
+    NQABELIHU_SCHEDULE_WORDS = 512, /* commands of the schedule RAM: addresses from 0 to one less */
     NQABELIHU_MESSAGE_WORDS = 256,  /* words of the message RAM, likewise */
     NQABELIHU_SETTINGS = 12,        /* settings of a channel */
     NQABELIHU_VALUES = 7,           /* the words that nqabelihu_perform asks for the values */
@@ -897,15 +898,18 @@ uint32_t nqabelihu_encode_word(const uint32_t *list, size_t numbers, uint32_t wo
  */
 /* What stands at an offset. */
 typedef enum {
-    NQABELIHU_CAPTURED_NOTHING = 0, /* the end of the bytes, or a record that is refused */
-    NQABELIHU_CAPTURED_ARRIVAL = 1, /* channel, word and stamp */
-    NQABELIHU_CAPTURED_IMAGE = 2    /* channel and the commands of its schedule */
+    NQABELIHU_CAPTURED_NOTHING = 0,   /* the end of the bytes, or a record that is refused */
+    NQABELIHU_CAPTURED_ARRIVAL = 1,   /* channel, word and stamp */
+    NQABELIHU_CAPTURED_OLD_IMAGE = 2, /* channel and the commands of a schedule of 256, as schedules were once */
+    NQABELIHU_CAPTURED_IMAGE = 3      /* channel and the commands of its schedule */
 } nqabelihu_captured_kind;
 
 enum {
-    NQABELIHU_IMAGE_COMMANDS = 256, /* the words that reading an image needs, and the commands that writing one takes */
-    NQABELIHU_ARRIVAL_BYTES = 14,   /* the whole record of an arrival */
-    NQABELIHU_IMAGE_BYTES = 1030    /* the whole record of an image */
+    NQABELIHU_IMAGE_COMMANDS = 512,     /* the words that reading an image, old or new, needs, and the commands that writing a new one takes */
+    NQABELIHU_OLD_IMAGE_COMMANDS = 256, /* the commands that writing an old image takes */
+    NQABELIHU_ARRIVAL_BYTES = 14,       /* the whole record of an arrival */
+    NQABELIHU_IMAGE_BYTES = 6 + 4 * NQABELIHU_IMAGE_COMMANDS, /* the whole record of an image */
+    NQABELIHU_OLD_IMAGE_BYTES = 6 + 4 * NQABELIHU_OLD_IMAGE_COMMANDS
 };
 
 /* The kind of the record at an offset, the offset behind it, and its refusal, 20 to 23. At the end and beside a refusal the kind is 0 and the
@@ -914,14 +918,15 @@ uint32_t nqabelihu_capture_kind(const uint8_t *bytes, size_t length, size_t offs
 size_t nqabelihu_capture_offset(const uint8_t *bytes, size_t length, size_t offset);
 uint32_t nqabelihu_capture_refusal(const uint8_t *bytes, size_t length, size_t offset);
 
-/* Reads the record at an offset: the result is 0 or the refusal, 20 to 24. An image's commands go into the first NQABELIHU_IMAGE_COMMANDS words of
- * `commands`, and those behind them are left alone; kind, next, channel, word and stamp are written always, zeros (next: the same offset) at the end
- * and beside a refusal. */
+/* Reads the record at an offset: the result is 0 or the refusal, 20 to 24. An image fills the first NQABELIHU_IMAGE_COMMANDS words of `commands`,
+ * an old one with its own commands and then stops, words of 0; words behind them are left alone. kind, next, channel, word and stamp are written
+ * always, zeros (next: the same offset) at the end and beside a refusal. */
 NQABELIHU_LOOK uint32_t nqabelihu_capture_read(const uint8_t *bytes, size_t length, size_t offset, uint32_t *commands, size_t commands_length,
                                                uint32_t *kind, size_t *next, uint32_t *channel, uint32_t *word, uint32_t *stamp);
 
 /* Writes a record at an offset: the result is 0 or the refusal, 21 to 24. An arrival takes word and stamp and no commands, an image exactly
- * NQABELIHU_IMAGE_COMMANDS commands. next takes the offset behind the record; beside a refusal it is 0 and no byte is written. */
+ * NQABELIHU_IMAGE_COMMANDS commands, an old image exactly NQABELIHU_OLD_IMAGE_COMMANDS. next takes the offset behind the record; beside a refusal
+ * it is 0 and no byte is written. */
 NQABELIHU_LOOK uint32_t nqabelihu_capture_write(uint8_t *bytes, size_t length, size_t offset, uint32_t kind, uint32_t channel, uint32_t word,
                                                 uint32_t stamp, const uint32_t *commands, size_t commands_length, size_t *next);
 
@@ -962,11 +967,18 @@ NQABELIHU_LOOK static inline nqabelihu_refusal nqabelihu_capture_arrival(uint8_t
     return nqabelihu_capture_(bytes, length, offset, NQABELIHU_CAPTURED_ARRIVAL, channel, word, stamp, &word, 0);
 }
 
-/* A schedule image of NQABELIHU_IMAGE_COMMANDS commands: NQABELIHU_IMAGE_BYTES bytes. */
+/* A schedule image of NQABELIHU_IMAGE_COMMANDS commands: NQABELIHU_IMAGE_BYTES bytes. An old reader of captures refuses it with KIND. */
 NQABELIHU_LOOK static inline nqabelihu_refusal nqabelihu_capture_image(uint8_t *bytes, size_t length, size_t *offset, uint32_t channel,
                                                                        const uint32_t *commands)
 {
     return nqabelihu_capture_(bytes, length, offset, NQABELIHU_CAPTURED_IMAGE, channel, 0, 0, commands, NQABELIHU_IMAGE_COMMANDS);
+}
+
+/* An old schedule image of NQABELIHU_OLD_IMAGE_COMMANDS commands: NQABELIHU_OLD_IMAGE_BYTES bytes. */
+NQABELIHU_LOOK static inline nqabelihu_refusal nqabelihu_capture_old_image(uint8_t *bytes, size_t length, size_t *offset, uint32_t channel,
+                                                                           const uint32_t *commands)
+{
+    return nqabelihu_capture_(bytes, length, offset, NQABELIHU_CAPTURED_OLD_IMAGE, channel, 0, 0, commands, NQABELIHU_OLD_IMAGE_COMMANDS);
 }
 
 #ifdef __cplusplus

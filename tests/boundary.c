@@ -22,7 +22,7 @@ uint32_t reset_elsewhere(uint32_t *words, size_t count)
     return nqabelihu_module_reset(memory);
 }
 
-enum { COUNT = 3, BEYOND = 64, SENTINEL = 0x5AFE };
+enum { COUNT = 3, BEYOND = 64, SENTINEL = 0x5AFE, RANGED = 23 /* the words of a block that have a range */ };
 
 /* ---- lent parts between pages that may not be touched ---- */
 
@@ -52,7 +52,7 @@ static uint32_t below(uint32_t limit)
 
 static uint32_t edge(void)
 {
-    static const uint32_t edges[] = {0, 1, 2, 3, 4, 5, 127, 128, 254, 255, 256, 1023, 1024, 65535, 65536, 1048575, 1048576, 0x7FFFFFFF, 0xFFFFFFFF};
+    static const uint32_t edges[] = {0, 1, 2, 3, 4, 5, 127, 128, 254, 255, 256, 511, 512, 1023, 1024, 65535, 65536, 1048575, 1048576, 0x7FFFFFFF, 0xFFFFFFFF};
     return edges[below(sizeof edges / sizeof edges[0])];
 }
 
@@ -279,7 +279,7 @@ static void random_calls(void)
             a = COUNT;
         if (below(8) == 0) {
             /* a number with a range, in the module part or a block */
-            damaged = below(2) == 0 ? below(NQABELIHU_MODULE_WORDS) : NQABELIHU_MODULE_WORDS + NQABELIHU_CHANNEL_WORDS * below(COUNT) + below(22);
+            damaged = below(2) == 0 ? below(NQABELIHU_MODULE_WORDS) : NQABELIHU_MODULE_WORDS + NQABELIHU_CHANNEL_WORDS * below(COUNT) + below(RANGED);
             old = memory[damaged];
             memory[damaged] = edge();
         }
@@ -303,6 +303,58 @@ static void random_calls(void)
     }
     CHECK(accepted > 5000 && refused > 2000, "%u accepted, %u refused", (unsigned)accepted, (unsigned)refused);
     free(before);
+}
+
+/* ---- memory of the old layout ---- */
+
+#include "old_layout.h"
+
+/* Every call but power-up is refused, with 1 at the image's own length and with 2 in memory that would hold the module now. */
+static void old_layout(const uint32_t (*image)[2], size_t pairs, uint32_t count)
+{
+    size_t old = OLD_MODULE_WORDS + count * (size_t)OLD_CHANNEL_WORDS, whole = nqabelihu_words(count) + BEYOND, at;
+    uint32_t *own = between_guards(old, AT_END), *larger = between_guards(whole, AT_END);
+    uint32_t *before = (uint32_t *)malloc(whole * sizeof *before);
+    uint32_t op, turn;
+    CHECK(before != NULL, "no memory");
+    CHECK(old < nqabelihu_words(count), "the old layout is not the shorter one");
+    for (at = 0; at < whole; at++)
+        before[at] = at < old ? 0 : SENTINEL;
+    for (at = 0; at < pairs; at++)
+        before[image[at][0]] = image[at][1];
+    memcpy(own, before, old * sizeof *own);
+    memcpy(larger, before, whole * sizeof *larger);
+    for (op = 2; op < 200; op++)
+        for (turn = 0; turn < 4; turn++) {
+            uint32_t channel = turn == 0 ? edge() : 1 + below(count), a = edge(), b = edge();
+            uint32_t short_or = values_of(op) < 0 ? NQABELIHU_REFUSED_NO_CALL : NQABELIHU_REFUSED_SHORT;
+            uint32_t unsound_or = values_of(op) < 0 ? NQABELIHU_REFUSED_NO_CALL : NQABELIHU_REFUSED_UNSOUND;
+            CHECK(item(own, old, op, channel, a, b) == short_or, "op %u on old memory of %u channels", (unsigned)op, (unsigned)count);
+            CHECK(item(larger, whole, op, channel, a, b) == unsound_or, "op %u on old memory of %u channels, more lent", (unsigned)op, (unsigned)count);
+        }
+    CHECK(item(own, old, 1, 0, count, 0) == NQABELIHU_REFUSED_SHORT, "power-up of %u channels on old memory", (unsigned)count);
+    CHECK(memcmp(own, before, old * sizeof *own) == 0 && memcmp(larger, before, whole * sizeof *larger) == 0, "old memory was changed");
+    CHECK(item(larger, whole, 1, 0, count, 0) == NQABELIHU_DONE, "power-up of %u channels on old memory, more lent", (unsigned)count);
+    CHECK(item(larger, whole, 5, 0, 0, 0) == NQABELIHU_DONE && values[0] == 0, "stamp after power-up");
+    free(before);
+}
+
+/* The layout number: no other value is sound, and module reset leaves it. */
+static void layout_number(void)
+{
+    enum { AT = NQABELIHU_MODULE_WORDS - 1, NUMBER = 2 };
+    static const uint32_t others[] = {0, 1, 3, 4, 255, 0x80000002, 0xFFFFFFFF};
+    size_t need = nqabelihu_words(1), at;
+    uint32_t *memory = between_guards(need, AT_END);
+    CHECK(item(memory, need, 1, 0, 1, 0) == NQABELIHU_DONE && memory[AT] == NUMBER, "layout number from power-up");
+    CHECK(item(memory, need, 2, 0, 0, 0) == NQABELIHU_DONE && memory[AT] == NUMBER, "layout number after a module reset");
+    for (at = 0; at < sizeof others / sizeof others[0]; at++) {
+        memory[AT] = others[at];
+        CHECK(item(memory, need, 5, 0, 0, 0) == NQABELIHU_REFUSED_UNSOUND, "stamp read with layout number %u", (unsigned)others[at]);
+        CHECK(item(memory, need, 2, 0, 0, 0) == NQABELIHU_REFUSED_UNSOUND, "module reset with layout number %u", (unsigned)others[at]);
+        CHECK(item(memory, need, 146, 1, 0, 0) == NQABELIHU_REFUSED_UNSOUND, "status read with layout number %u", (unsigned)others[at]);
+        CHECK(memory[AT] == others[at], "layout number %u was changed", (unsigned)others[at]);
+    }
 }
 
 /* ---- the header's functions by name against the op numbers of docs/CALLS.md ---- */
@@ -796,7 +848,7 @@ static void stands(const uint8_t *bytes, size_t length, size_t offset, uint32_t 
 {
     uint32_t got, given = 99, channel = 99, word = 99, stamp = 99;
     size_t behind = 99;
-    uint32_t seen = number == NQABELIHU_REFUSED_FEW_VALUES ? (uint32_t)NQABELIHU_CAPTURED_IMAGE : kind;
+    uint32_t seen = number == NQABELIHU_REFUSED_FEW_VALUES ? nqabelihu_capture_kind(bytes, length, offset) : kind;
     got = nqabelihu_capture_read(bytes, length, offset, lent, words, &given, &behind, &channel, &word, &stamp);
     CHECK(got == number && given == kind && behind == next, "record at %lu: %u %u %lu", (unsigned long)offset, (unsigned)got, (unsigned)given,
           (unsigned long)behind);
@@ -823,10 +875,10 @@ static void not_written(uint8_t *bytes, size_t length, size_t offset, uint32_t k
 
 static void capture_bytes(void)
 {
-    enum { WORDS = NQABELIHU_IMAGE_COMMANDS + 1, ROOM = NQABELIHU_IMAGE_BYTES };
+    enum { WORDS = NQABELIHU_IMAGE_COMMANDS + 1, ROOM = NQABELIHU_IMAGE_BYTES, OLD = NQABELIHU_OLD_IMAGE_COMMANDS };
     static const uint8_t example[NQABELIHU_ARRIVAL_BYTES] = {0x0C, 0, 1, 0, 1, 0, 0x23, 1, 0, 0, 5, 0, 0, 0};
     uint8_t *bytes = (uint8_t *)between_guards(4, AT_END) + 2; /* 14 bytes before a page that may not be read */
-    uint8_t *image = (uint8_t *)between_guards(258, AT_END) + 2; /* 1030 bytes, likewise */
+    uint8_t *image = (uint8_t *)between_guards((ROOM + 2) / 4, AT_END) + 2; /* ROOM bytes, likewise */
     uint32_t *lent = between_guards(WORDS, AT_END);
     uint32_t *commands = between_guards(NQABELIHU_IMAGE_COMMANDS, AT_END);
     size_t next, at, length;
@@ -850,7 +902,7 @@ static void capture_bytes(void)
     bytes[0] = 11; /* wrong for a known kind */
     stands(bytes, 14, 0, NULL, 0, NQABELIHU_REFUSED_LENGTH, 0, 0);
     bytes[0] = 2; /* an unknown kind of any length from 2 on */
-    bytes[2] = 3;
+    bytes[2] = 4;
     stands(bytes, 14, 0, NULL, 0, NQABELIHU_REFUSED_KIND, 0, 0);
     bytes[0] = 12;
     bytes[2] = 0;
@@ -874,7 +926,22 @@ static void capture_bytes(void)
     stands(image, ROOM, 0, lent, WORDS, 0, NQABELIHU_CAPTURED_IMAGE, ROOM);
     for (at = 0; at < NQABELIHU_IMAGE_COMMANDS; at++)
         CHECK(lent[at] == commands[at], "command %lu", (unsigned long)at);
-    CHECK(lent[NQABELIHU_IMAGE_COMMANDS] == 0x5A5A5A5A, "word 257 is written");
+    CHECK(lent[NQABELIHU_IMAGE_COMMANDS] == 0x5A5A5A5A, "the word behind an image is written");
+    CHECK((int)NQABELIHU_IMAGE_COMMANDS == (int)NQABELIHU_SCHEDULE_WORDS, "an image is no schedule");
+
+    /* an old image: its own commands and then words of 0, and as many lent words as a new one */
+    CHECK(nqabelihu_capture_write(image, ROOM, 0, NQABELIHU_CAPTURED_OLD_IMAGE, 12, 1, 2, commands, OLD, &next) == 0
+              && next == NQABELIHU_OLD_IMAGE_BYTES,
+          "an old image written");
+    for (at = 0; at < WORDS; at++)
+        lent[at] = 0x5A5A5A5A;
+    stands(image, NQABELIHU_OLD_IMAGE_BYTES, 0, lent, NQABELIHU_IMAGE_COMMANDS - 1, NQABELIHU_REFUSED_FEW_VALUES, 0, 0);
+    for (at = 0; at < WORDS; at++)
+        CHECK(lent[at] == 0x5A5A5A5A, "a refused old image changed word %lu", (unsigned long)at);
+    stands(image, NQABELIHU_OLD_IMAGE_BYTES, 0, lent, WORDS, 0, NQABELIHU_CAPTURED_OLD_IMAGE, NQABELIHU_OLD_IMAGE_BYTES);
+    for (at = 0; at < NQABELIHU_IMAGE_COMMANDS; at++)
+        CHECK(lent[at] == (at < OLD ? commands[at] : 0), "word %lu of an old image", (unsigned long)at);
+    CHECK(lent[NQABELIHU_IMAGE_COMMANDS] == 0x5A5A5A5A, "the word behind an old image is written");
 
     /* writing: the example, and each refusal */
     CHECK(nqabelihu_capture_write(bytes, 14, 0, NQABELIHU_CAPTURED_ARRIVAL, 1, 0x123, 5, NULL, 0, &next) == 0 && next == 14, "an arrival written");
@@ -884,7 +951,9 @@ static void capture_bytes(void)
           "the example's values");
     not_written(bytes, 14, 0, NQABELIHU_CAPTURED_ARRIVAL, 1, commands, 1, NQABELIHU_REFUSED_LENGTH);
     not_written(image, ROOM, 0, NQABELIHU_CAPTURED_IMAGE, 1, commands, NQABELIHU_IMAGE_COMMANDS - 1, NQABELIHU_REFUSED_LENGTH);
-    not_written(bytes, 14, 0, 3, 1, NULL, 0, NQABELIHU_REFUSED_KIND);
+    not_written(image, ROOM, 0, NQABELIHU_CAPTURED_IMAGE, 1, commands, OLD, NQABELIHU_REFUSED_LENGTH);
+    not_written(image, ROOM, 0, NQABELIHU_CAPTURED_OLD_IMAGE, 1, commands, NQABELIHU_IMAGE_COMMANDS, NQABELIHU_REFUSED_LENGTH);
+    not_written(bytes, 14, 0, 4, 1, NULL, 0, NQABELIHU_REFUSED_KIND);
     not_written(bytes, 14, 0, 0, 1, commands, 1, NQABELIHU_REFUSED_KIND);
     not_written(bytes, 14, 0, NQABELIHU_CAPTURED_ARRIVAL, 0, NULL, 0, NQABELIHU_REFUSED_RECORD_CHANNEL);
     not_written(bytes, 13, 0, NQABELIHU_CAPTURED_ARRIVAL, 13, NULL, 0, NQABELIHU_REFUSED_RECORD_CHANNEL);
@@ -908,6 +977,9 @@ int main(void)
     few_values();
     every_op();
     random_calls();
+    old_layout(old_off, sizeof old_off / sizeof old_off[0], 1);
+    old_layout(old_on, sizeof old_on / sizeof old_on[0], 3);
+    layout_number();
     by_name();
     meanings();
     kit();

@@ -387,7 +387,7 @@ static void recorder(void)
 static void captures(void)
 {
     static const uint8_t example[NQABELIHU_ARRIVAL_BYTES] = {0x0C, 0, 1, 0, 1, 0, 0x23, 1, 0, 0, 5, 0, 0, 0};
-    enum { LENGTH = 2 * NQABELIHU_ARRIVAL_BYTES + NQABELIHU_IMAGE_BYTES };
+    enum { LENGTH = 2 * NQABELIHU_ARRIVAL_BYTES + NQABELIHU_IMAGE_BYTES, OLD = NQABELIHU_OLD_IMAGE_COMMANDS };
     static uint8_t bytes[LENGTH];
     static uint32_t commands[NQABELIHU_IMAGE_COMMANDS], lent[NQABELIHU_IMAGE_COMMANDS];
     nqabelihu_captured record;
@@ -406,7 +406,7 @@ static void captures(void)
     offset = 0;
     CHECK(nqabelihu_next_captured(bytes, LENGTH, &offset, NULL, 0, &record) == NQABELIHU_DONE && offset == sizeof example, "the example read");
     CHECK(record.kind == NQABELIHU_CAPTURED_ARRIVAL && record.channel == 1 && record.word == 0x123 && record.stamp == 5, "its values");
-    CHECK(nqabelihu_next_captured(bytes, LENGTH, &offset, lent, NQABELIHU_IMAGE_COMMANDS - 1, &record) == NQABELIHU_REFUSED_FEW_VALUES, "255 words");
+    CHECK(nqabelihu_next_captured(bytes, LENGTH, &offset, lent, NQABELIHU_IMAGE_COMMANDS - 1, &record) == NQABELIHU_REFUSED_FEW_VALUES, "a word too few");
     CHECK(record.kind == NQABELIHU_CAPTURED_NOTHING && offset == sizeof example, "the offset stays");
     CHECK(nqabelihu_next_captured(bytes, LENGTH, &offset, lent, NQABELIHU_IMAGE_COMMANDS, &record) == NQABELIHU_DONE, "the image read");
     CHECK(record.kind == NQABELIHU_CAPTURED_IMAGE && record.channel == 12 && record.word == 0 && record.stamp == 0, "its values");
@@ -414,6 +414,14 @@ static void captures(void)
     CHECK(nqabelihu_next_captured(bytes, LENGTH, &offset, NULL, 0, &record) == NQABELIHU_DONE && record.stamp == 0x80000000, "the last read");
     CHECK(nqabelihu_next_captured(bytes, LENGTH, &offset, NULL, 0, &record) == NQABELIHU_DONE && record.kind == NQABELIHU_CAPTURED_NOTHING, "the end");
     CHECK(offset == LENGTH, "the end's offset");
+
+    offset = 0;
+    CHECK(nqabelihu_capture_old_image(bytes, LENGTH, &offset, 3, commands) == NQABELIHU_DONE && offset == NQABELIHU_OLD_IMAGE_BYTES, "an old image");
+    offset = 0;
+    CHECK(nqabelihu_next_captured(bytes, NQABELIHU_OLD_IMAGE_BYTES, &offset, lent, NQABELIHU_IMAGE_COMMANDS, &record) == NQABELIHU_DONE, "it is read");
+    CHECK(record.kind == NQABELIHU_CAPTURED_OLD_IMAGE && record.channel == 3 && offset == NQABELIHU_OLD_IMAGE_BYTES, "its kind stays");
+    for (at = 0; at < NQABELIHU_IMAGE_COMMANDS; at++)
+        CHECK(lent[at] == (at < OLD ? commands[at] : 0), "command %u of the old image", (unsigned)at);
 }
 
 void kit(void)

@@ -8,7 +8,7 @@ import sys
 
 import nqabelihu as n
 
-EDGES = (0, 1, 2, 3, 4, 5, 127, 128, 254, 255, 256, 1023, 1024, 65535, 65536, 1048575, 1048576, 0x7FFFFFFF, 0xFFFFFFFF)
+EDGES = (0, 1, 2, 3, 4, 5, 127, 128, 254, 255, 256, 511, 512, 1023, 1024, 65535, 65536, 1048575, 1048576, 0x7FFFFFFF, 0xFFFFFFFF)
 number = random.Random(429).random
 
 

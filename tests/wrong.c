@@ -5,7 +5,9 @@
 #include <stddef.h>
 #include <stdint.h>
 
-#define LAST_WRONG 27
+#include "../include/nqabelihu.h"
+
+#define LAST_WRONG 29
 
 uint32_t __real_nqabelihu_perform(uint32_t *memory, size_t words, uint32_t *values, size_t places, uint32_t op, uint32_t channel, uint32_t a,
                                   uint32_t b);
@@ -86,6 +88,15 @@ uint32_t __wrap_nqabelihu_perform(uint32_t *memory, size_t words, uint32_t *valu
 #elif WRONG == 6 /* null memory is followed */
     volatile uint32_t read = memory[0];
     (void)read;
+#elif WRONG == 28 /* memory of another layout is taken */
+    const size_t at = NQABELIHU_MODULE_WORDS - 1;
+    if (op != 1 && words > at && memory[at] != 2) {
+        uint32_t layout = memory[at];
+        memory[at] = 2;
+        number = __real_nqabelihu_perform(memory, words, values, places, op, channel, a, b);
+        memory[at] = layout;
+        return number;
+    }
 #endif
     number = __real_nqabelihu_perform(memory, words, values, places, op, channel, a, b);
 #if WRONG == 7 /* a refusal changes the stamp */
@@ -127,9 +138,12 @@ uint32_t __wrap_nqabelihu_capture_read(const uint8_t *bytes, size_t length, size
                                        size_t *next, uint32_t *channel, uint32_t *word, uint32_t *stamp)
 {
     uint32_t number = __real_nqabelihu_capture_read(bytes, length, offset, commands, places, kind, next, channel, word, stamp);
-#if WRONG == 24 /* an image writes word 257 */
-    if (*kind == 2 && places > 256)
-        commands[256] = 0;
+#if WRONG == 24 /* an image writes the word behind it */
+    if (*kind == NQABELIHU_CAPTURED_IMAGE && places > NQABELIHU_IMAGE_COMMANDS)
+        commands[NQABELIHU_IMAGE_COMMANDS] = 0;
+#elif WRONG == 29 /* an old image leaves the words behind its own commands */
+    if (*kind == NQABELIHU_CAPTURED_OLD_IMAGE)
+        commands[NQABELIHU_IMAGE_COMMANDS - 1] = 0x5A5A5A5A;
 #elif WRONG == 25 /* a refusal has offset 0 */
     if (number != 0)
         *next = 0;

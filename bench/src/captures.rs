@@ -18,7 +18,9 @@ extern "C" {
     ) -> u32;
 }
 
-const COMMANDS: usize = 256;
+/// The commands of an image, and of an old one.
+const COMMANDS: usize = 512;
+const OLD_COMMANDS: usize = 256;
 
 /// What a reading answers.
 #[derive(Clone, Copy, Debug, Default, PartialEq)]
@@ -56,7 +58,8 @@ fn record_at(bytes: &[u8], offset: usize, commands: &mut [u32]) -> Record {
     let kind = half(record, 2);
     let own = match kind {
         1 => 12,
-        2 => 4 + 4 * COMMANDS,
+        2 => 4 + 4 * OLD_COMMANDS,
+        3 => 4 + 4 * COMMANDS,
         _ => return refused(22),
     };
     if length != own {
@@ -76,6 +79,7 @@ fn record_at(bytes: &[u8], offset: usize, commands: &mut [u32]) -> Record {
     for (command, bytes) in commands.iter_mut().zip(record[6..].chunks_exact(4)) {
         *command = u32::from_le_bytes(bytes.try_into().unwrap());
     }
+    commands[(own - 4) / 4..].fill(0);
     found
 }
 
@@ -172,12 +176,19 @@ pub fn table() {
     println!("|---|---|---|---|");
     let arrival: Vec<u8> =
         [12u16, 1, 1].iter().flat_map(|n| n.to_le_bytes()).chain([0x23, 1, 0, 0, 5, 0, 0, 0]).collect();
-    let image: Vec<u8> = [1028u16, 2, 12]
-        .iter()
-        .flat_map(|n| n.to_le_bytes())
-        .chain((0..COMMANDS as u32).flat_map(|i| (i * 0x0102_0304).to_le_bytes()))
-        .collect();
-    for (name, record) in [("arrivals", arrival), ("schedule images", image)] {
+    let image = |kind: u16, count: usize| -> Vec<u8> {
+        [(4 + 4 * count) as u16, kind, 12]
+            .iter()
+            .flat_map(|n| n.to_le_bytes())
+            .chain((0..count as u32).flat_map(|i| i.wrapping_mul(0x0102_0304).to_le_bytes()))
+            .collect()
+    };
+    let records = [
+        ("arrivals", arrival),
+        ("schedule images", image(3, COMMANDS)),
+        ("old schedule images", image(2, OLD_COMMANDS)),
+    ];
+    for (name, record) in records {
         let bytes = record.repeat((1 << 20) / record.len());
         let mut commands = [0u32; COMMANDS];
         let mut same = [0u32; COMMANDS];

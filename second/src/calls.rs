@@ -1,5 +1,6 @@
 //! The calls by name, as the items `op channel a b` give them.
 
+use crate::layout::SETTINGS;
 use crate::ops::*;
 
 /// Number written for an item that is no call.
@@ -66,7 +67,7 @@ pub enum Call {
     ReadAsync,
 }
 
-pub const SETTING_NAMES: [&str; 12] = [
+pub const SETTING_NAMES: [&str; SETTINGS] = [
     "receiver",
     "transmitter",
     "parity",

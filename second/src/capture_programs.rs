@@ -8,7 +8,7 @@ use crate::engine::{Engine, OnWords};
 use crate::layout::{need, CHANNELS};
 use crate::ops;
 
-/// One line for each record, and one for how the reading ends.
+/// One line for each record, an image's commands as they fill the lent words, and one for how the reading ends.
 pub fn show(bytes: &[u8], out: &mut impl Write) -> io::Result<()> {
     let mut offset = 0;
     loop {
@@ -17,12 +17,12 @@ pub fn show(bytes: &[u8], out: &mut impl Write) -> io::Result<()> {
             Ok(None) => return writeln!(out, "0 0 {offset}"),
             Err(number) => return writeln!(out, "{number} 0 {offset}"),
         };
-        let Record { kind, channel, word, stamp, commands } = record;
+        let Record { kind, channel, word, stamp, .. } = record;
         write!(out, "0 {kind} {next} {channel}")?;
         if kind == ARRIVAL {
             write!(out, " {word} {stamp}")?;
         }
-        for command in commands {
+        for command in record.lent_words() {
             write!(out, " {command}")?;
         }
         writeln!(out)?;

@@ -1,7 +1,10 @@
 //! Capture files: records one after another in lent bytes, each of an arrival or of a schedule image.
 //!
 //! A record is length (two bytes, counting kind and body), kind (two bytes) and body; every number has its low byte first.
-//! Kind 1, an arrival: channel (2), word (4), stamp (4). Kind 2, a schedule image: channel (2) and 256 commands (4 each).
+//! Kind 1, an arrival: channel (2), word (4), stamp (4). Kinds 2 and 3, schedule images: channel (2) and 256 or 512 commands (4 each).
+//! New images are kind 3; kind 2 still loads, and a record keeps its kind.
+
+use crate::layout::{CHANNELS, COMMANDS};
 
 /// Fewer bytes left than 2, or than the length asks.
 pub const CUT: u32 = 20;
@@ -14,13 +17,19 @@ pub const NO_CHANNEL: u32 = 23;
 pub const NO_ROOM: u32 = 24;
 
 pub const ARRIVAL: u32 = 1;
-pub const IMAGE: u32 = 2;
-/// Commands of a schedule image.
-pub const IMAGE_COMMANDS: usize = 256;
-/// Bytes of an arrival's record.
-pub const ARRIVAL_BYTES: usize = 14;
+pub const OLD_IMAGE: u32 = 2;
+pub const IMAGE: u32 = 3;
+/// Commands of an image of each kind. Reading either needs room for the greater.
+pub const OLD_IMAGE_COMMANDS: usize = 256;
+pub const IMAGE_COMMANDS: usize = COMMANDS;
+/// Bytes of the length, the kind and the channel, with which a record begins.
+const HEAD_BYTES: usize = 6;
+/// Bytes of a whole record of each kind.
+pub const ARRIVAL_BYTES: usize = HEAD_BYTES + 8;
+pub const OLD_IMAGE_BYTES: usize = HEAD_BYTES + 4 * OLD_IMAGE_COMMANDS;
+pub const IMAGE_BYTES: usize = HEAD_BYTES + 4 * IMAGE_COMMANDS;
 
-/// Of an arrival there are no commands; of an image word and stamp are 0 and do not count.
+/// Of an arrival there are no commands, of an image its kind's own count; of an image word and stamp are 0 and do not count.
 #[derive(Clone, PartialEq, Eq, Debug, Default)]
 pub struct Record {
     pub kind: u32,
@@ -30,18 +39,35 @@ pub struct Record {
     pub commands: Vec<u32>,
 }
 
+impl Record {
+    /// What reading fills the lent words with: of an image its own commands, of kind 2 then stop (words of 0), of an arrival none.
+    pub fn lent_words(&self) -> Vec<u32> {
+        let mut words = self.commands.clone();
+        if self.kind != ARRIVAL {
+            words.resize(IMAGE_COMMANDS, 0);
+        }
+        words
+    }
+}
+
 /// How many commands a record of this kind has; none for an unknown kind.
 pub fn commands_of(kind: u32) -> Option<usize> {
     match kind {
         ARRIVAL => Some(0),
+        OLD_IMAGE => Some(OLD_IMAGE_COMMANDS),
         IMAGE => Some(IMAGE_COMMANDS),
         _ => None,
     }
 }
 
-/// Bytes of a record of a known kind behind its kind.
-fn body_bytes(kind: u32, commands: usize) -> usize {
-    2 + if kind == ARRIVAL { 8 } else { 4 * commands }
+/// Bytes of a whole record of this kind; none for an unknown kind.
+pub fn record_bytes(kind: u32) -> Option<usize> {
+    match kind {
+        ARRIVAL => Some(ARRIVAL_BYTES),
+        OLD_IMAGE => Some(OLD_IMAGE_BYTES),
+        IMAGE => Some(IMAGE_BYTES),
+        _ => None,
+    }
 }
 
 /// A record where it stands: what the body has behind the channel, and the offset behind the record.
@@ -66,13 +92,12 @@ fn find(bytes: &[u8], offset: usize) -> Result<Option<Found<'_>>, u32> {
     let record = behind.get(..number(length) as usize).ok_or(CUT)?;
     let (kind, body) = record.split_at_checked(2).ok_or(BAD_LENGTH)?;
     let kind = number(kind);
-    let commands = commands_of(kind).ok_or(UNKNOWN_KIND)?;
-    if body.len() != body_bytes(kind, commands) {
+    if 2 + record.len() != record_bytes(kind).ok_or(UNKNOWN_KIND)? {
         return Err(BAD_LENGTH);
     }
     let (channel, rest) = body.split_at(2);
     let channel = number(channel);
-    if !(1..=12).contains(&channel) {
+    if !(1..=CHANNELS).contains(&channel) {
         return Err(NO_CHANNEL);
     }
     Ok(Some(Found { kind, channel, rest, next: offset + 2 + record.len() }))
@@ -83,7 +108,7 @@ pub fn peek(bytes: &[u8], offset: usize) -> Result<(u32, usize), u32> {
     Ok(find(bytes, offset)?.map_or((0, offset), |found| (found.kind, found.next)))
 }
 
-/// The record at an offset and the offset behind it, with room for so many commands; none at the end.
+/// The record at an offset and the offset behind it, with so many words lent for commands; none at the end. An image of either kind fills 512.
 pub fn read(bytes: &[u8], offset: usize, room: usize) -> Result<Option<(Record, usize)>, u32> {
     let Some(Found { kind, channel, rest, next }) = find(bytes, offset)? else {
         return Ok(None);
@@ -91,7 +116,7 @@ pub fn read(bytes: &[u8], offset: usize, room: usize) -> Result<Option<(Record, 
     let numbers: Vec<u32> = rest.chunks(4).map(number).collect();
     let record = match numbers[..] {
         [word, stamp] if kind == ARRIVAL => Record { kind, channel, word, stamp, commands: vec![] },
-        _ if numbers.len() > room => return Err(NO_ROOM),
+        _ if room < IMAGE_COMMANDS => return Err(NO_ROOM),
         _ => Record { kind, channel, word: 0, stamp: 0, commands: numbers },
     };
     Ok(Some((record, next)))
@@ -100,16 +125,16 @@ pub fn read(bytes: &[u8], offset: usize, room: usize) -> Result<Option<(Record, 
 /// Writes a record at an offset of the lent output and gives the offset behind it; refused by 21 to 24 with no byte written.
 pub fn write(output: &mut [u8], offset: usize, record: &Record) -> Result<usize, u32> {
     let Record { kind, channel, word, stamp, ref commands } = *record;
-    if commands.len() != commands_of(kind).ok_or(UNKNOWN_KIND)? {
+    let whole = record_bytes(kind).ok_or(UNKNOWN_KIND)?;
+    if Some(commands.len()) != commands_of(kind) {
         return Err(BAD_LENGTH);
     }
-    if !(1..=12).contains(&channel) {
+    if !(1..=CHANNELS).contains(&channel) {
         return Err(NO_CHANNEL);
     }
-    let length = 2 + body_bytes(kind, commands.len());
-    let place = output.get_mut(offset..).and_then(|left| left.get_mut(..2 + length)).ok_or(NO_ROOM)?;
+    let place = output.get_mut(offset..).and_then(|left| left.get_mut(..whole)).ok_or(NO_ROOM)?;
     let mut bytes = vec![];
-    for short in [length as u16, kind as u16, channel as u16] {
+    for short in [(whole - 2) as u16, kind as u16, channel as u16] {
         bytes.extend(short.to_le_bytes());
     }
     let numbers: &[u32] = if kind == ARRIVAL { &[word, stamp] } else { commands };
@@ -131,8 +156,17 @@ mod tests {
         Record { kind: 1, channel, word, stamp, commands: vec![] }
     }
 
+    fn image_of(kind: u32, channel: u32) -> Record {
+        let commands = (0..commands_of(kind).unwrap() as u32).map(|k| k.wrapping_mul(0x0101_0101)).collect();
+        Record { kind, channel, commands, ..Record::default() }
+    }
+
+    fn old_image(channel: u32) -> Record {
+        image_of(2, channel)
+    }
+
     fn image(channel: u32) -> Record {
-        Record { kind: 2, channel, commands: (0..256).map(|k| k * 0x0101_0101).collect(), ..Record::default() }
+        image_of(3, channel)
     }
 
     #[test]
@@ -148,15 +182,35 @@ mod tests {
     }
 
     #[test]
-    fn an_image_is_1030_bytes() {
-        let mut bytes = [0; 1030];
-        assert_eq!(write(&mut bytes, 0, &image(12)), Ok(1030));
-        assert_eq!(bytes[..6], [0x04, 0x04, 2, 0, 12, 0]);
-        assert_eq!(bytes[10..14], [1, 1, 1, 1]);
-        assert_eq!(read(&bytes, 0, 256), Ok(Some((image(12), 1030))));
-        assert_eq!(read(&bytes, 0, 257), Ok(Some((image(12), 1030))));
-        assert_eq!(read(&bytes, 0, 255), Err(24));
-        assert_eq!(peek(&bytes, 0), Ok((2, 1030)), "no lent words, no 24");
+    fn an_image_of_kind_2_is_1030_bytes_and_one_of_kind_3_2054() {
+        assert_eq!(
+            [record_bytes(1), record_bytes(2), record_bytes(3), record_bytes(4)],
+            [Some(14), Some(1030), Some(2054), None]
+        );
+        for (record, whole, length) in [(old_image(12), 1030, [0x04, 0x04]), (image(12), 2054, [0x04, 0x08])] {
+            let mut bytes = vec![0; whole];
+            assert_eq!(write(&mut bytes, 0, &record), Ok(whole));
+            assert_eq!(bytes[..2], length);
+            assert_eq!(bytes[2..6], [record.kind as u8, 0, 12, 0]);
+            assert_eq!(bytes[10..14], [1, 1, 1, 1]);
+            for room in [512, 513] {
+                assert_eq!(read(&bytes, 0, room), Ok(Some((record.clone(), whole))), "the record keeps its kind");
+            }
+            for room in [0, 255, 256, 257, 511] {
+                assert_eq!(read(&bytes, 0, room), Err(24), "either kind fills 512");
+            }
+            assert_eq!(peek(&bytes, 0), Ok((record.kind, whole)), "no lent words, no 24");
+        }
+    }
+
+    #[test]
+    fn kind_2_fills_its_own_256_and_then_words_of_0() {
+        let words = old_image(1).lent_words();
+        assert_eq!(words.len(), 512);
+        assert_eq!(words[..256], old_image(1).commands);
+        assert!(words[256..].iter().all(|&word| word == 0));
+        assert_eq!(image(1).lent_words(), image(1).commands);
+        assert_eq!(arrival(1, 2, 3).lent_words(), []);
     }
 
     #[test]
@@ -176,7 +230,10 @@ mod tests {
     fn lengths_are_21() {
         assert_eq!(read(&[0, 0], 0, 0), Err(21));
         assert_eq!(read(&[1, 0, 1], 0, 0), Err(21));
-        for (kind, length) in [(1, 2), (1, 11), (1, 13), (1, 1028), (2, 2), (2, 12), (2, 1027), (2, 1029)] {
+        let of_arrivals = [2, 11, 13, 1028, 2052].map(|length| (1, length));
+        let of_old_images = [2, 12, 1027, 1029, 2052].map(|length| (2, length));
+        let of_images = [2, 12, 1028, 2051, 2053].map(|length| (3, length));
+        for (kind, length) in [of_arrivals, of_old_images, of_images].concat() {
             let mut bytes = vec![0; 2 + length];
             bytes[..2].copy_from_slice(&(length as u16).to_le_bytes());
             bytes[2] = kind;
@@ -186,14 +243,14 @@ mod tests {
 
     #[test]
     fn unknown_kinds_are_22_with_any_length() {
-        for kind in [0, 3, 4, 0x0101, 0x0201, 0xFFFF_u16] {
+        for kind in [0, 4, 0x0101, 0x0201, 0x0300, 0xFFFF_u16] {
             let [low, high] = kind.to_le_bytes();
             assert_eq!(read(&[2, 0, low, high], 0, 0), Err(22));
             assert_eq!(read(&[4, 0, low, high, 0, 0], 0, 0), Err(22));
-            assert_eq!(write(&mut [0; 2000], 0, &Record { kind: kind.into(), ..arrival(1, 1, 1) }), Err(22));
-            assert_eq!(write(&mut [0; 2000], 0, &Record { kind: kind.into(), ..image(0) }), Err(22));
+            assert_eq!(write(&mut [0; 3000], 0, &Record { kind: kind.into(), ..arrival(1, 1, 1) }), Err(22));
+            assert_eq!(write(&mut [0; 3000], 0, &Record { kind: kind.into(), ..image(0) }), Err(22));
         }
-        assert_eq!(write(&mut [0; 2000], 0, &Record { kind: 0x1_0001, ..arrival(1, 1, 1) }), Err(22));
+        assert_eq!(write(&mut [0; 3000], 0, &Record { kind: 0x1_0001, ..arrival(1, 1, 1) }), Err(22));
         assert_eq!(write(&mut [], 9, &Record::default()), Err(22));
     }
 
@@ -204,6 +261,7 @@ mod tests {
             bytes[4..6].copy_from_slice(&(channel as u16).to_le_bytes());
             assert_eq!(read(&bytes, 0, 0), Err(23));
             assert_eq!(write(&mut [], 1, &arrival(channel, 1, 1)), Err(23));
+            assert_eq!(write(&mut [], 1, &old_image(channel)), Err(23));
             assert_eq!(write(&mut [], 1, &image(channel)), Err(23));
         }
         assert_eq!(write(&mut [0; 14], 0, &arrival(0x1_0001, 1, 1)), Err(23));
@@ -216,13 +274,16 @@ mod tests {
             assert_eq!(write(&mut [], 0, &Record { commands: vec![0; count], ..arrival(0, 1, 1) }), Err(21));
         }
         for count in [0, 1, 255, 257, 512] {
+            assert_eq!(write(&mut [], 0, &Record { commands: vec![0; count], ..old_image(0) }), Err(21));
+        }
+        for count in [0, 1, 256, 511, 513] {
             assert_eq!(write(&mut [], 0, &Record { commands: vec![0; count], ..image(0) }), Err(21));
         }
     }
 
     #[test]
     fn output_too_short_is_24() {
-        for (record, bytes) in [(arrival(1, 1, 1), 14), (image(1), 1030)] {
+        for (record, bytes) in [(arrival(1, 1, 1), 14), (old_image(1), 1030), (image(1), 2054)] {
             let mut output = vec![0xEE; bytes];
             for offset in [1, 2, bytes, bytes + 1, usize::MAX - 13, usize::MAX] {
                 assert_eq!(write(&mut output, offset, &record), Err(24));
@@ -235,7 +296,7 @@ mod tests {
 
     #[test]
     fn word_and_stamp_of_an_image_do_not_count() {
-        let (mut one, mut other) = ([0; 1030], [0; 1030]);
+        let (mut one, mut other) = ([0; 2054], [0; 2054]);
         write(&mut one, 0, &image(3)).unwrap();
         write(&mut other, 0, &Record { word: 7, stamp: 9, ..image(3) }).unwrap();
         assert_eq!(one, other);

@@ -1,6 +1,8 @@
 //! Two implementations of capture files on the same bytes: every answer, every lent word and byte, and round trips both ways.
 
-use crate::captures::{self, Record, IMAGE_COMMANDS};
+use crate::captures::{
+    self, Record, ARRIVAL_BYTES, IMAGE, IMAGE_BYTES, IMAGE_COMMANDS, OLD_IMAGE, OLD_IMAGE_BYTES, OLD_IMAGE_COMMANDS,
+};
 use crate::lists::Dice;
 use crate::random_captures::{bad_record, bytes_of, damage, noise, records};
 
@@ -48,7 +50,8 @@ impl CaptureFile for OwnCaptures {
         let none = Answer { number: 0, kind: 0, next: offset, channel: 0, word: 0, stamp: 0 };
         match captures::read(bytes, offset, commands.len()) {
             Ok(Some((record, next))) => {
-                commands[..record.commands.len()].copy_from_slice(&record.commands);
+                let words = record.lent_words();
+                commands[..words.len()].copy_from_slice(&words);
                 let Record { kind, channel, word, stamp, .. } = record;
                 Answer { number: 0, kind, next, channel, word, stamp }
             }
@@ -70,11 +73,39 @@ pub type Answers = [u64; 6];
 
 const NUMBERS: [u32; 6] = [0, 20, 21, 22, 23, 24];
 
+/// How often images of a kind were read and written, and how often that was refused.
+#[derive(Default, Debug)]
+pub struct Images {
+    pub read: u64,
+    /// Read with exactly as many words lent as reading needs.
+    pub read_with_no_word_more: u64,
+    /// Fewer bytes left than the length asks: 20.
+    pub cut: u64,
+    /// One word too few lent: 24.
+    pub one_word_short: u64,
+    /// As many words lent as kind 2 has commands: 24.
+    pub room_of_256: u64,
+    pub written: u64,
+    /// Written with the other kind's count of commands: 21.
+    pub other_count: u64,
+}
+
+impl Images {
+    /// For the summary line.
+    pub fn shown(&self) -> String {
+        let Images { read, cut, one_word_short, written, other_count, .. } = self;
+        format!("read {read}, cut {cut}, one word short {one_word_short}, written {written}, of the other's count {other_count}")
+    }
+}
+
 #[derive(Default, Debug)]
 pub struct Seen {
     pub captures: u64,
     /// Captures with an image in them.
     pub with_images: u64,
+    /// What was done with images of kinds 2 and 3.
+    pub old_images: Images,
+    pub images: Images,
     /// Captures cut at every byte, and the cuts.
     pub cut: u64,
     pub cuts: u64,
@@ -96,6 +127,32 @@ pub fn shown(answers: &Answers) -> String {
     parts.join(", ")
 }
 
+/// Words lent for commands: none, and at and beside what images of each kind fill.
+const ROOMS: [usize; 9] = [
+    0,
+    1,
+    OLD_IMAGE_COMMANDS,
+    OLD_IMAGE_COMMANDS + 1,
+    IMAGE_COMMANDS - 1,
+    IMAGE_COMMANDS - 1,
+    IMAGE_COMMANDS,
+    IMAGE_COMMANDS,
+    IMAGE_COMMANDS + 1,
+];
+
+/// Bytes at and beside what a record of each kind needs.
+const OUTPUTS: [usize; 9] = [
+    0,
+    ARRIVAL_BYTES - 1,
+    ARRIVAL_BYTES,
+    ARRIVAL_BYTES + 1,
+    OLD_IMAGE_BYTES - 1,
+    OLD_IMAGE_BYTES,
+    IMAGE_BYTES - 1,
+    IMAGE_BYTES,
+    IMAGE_BYTES + 1,
+];
+
 /// What stands in lent words and bytes, and beside them, before they are written.
 const WORDS_BEFORE: u32 = 0xA5A5_A5A5;
 const BYTE_BEFORE: u8 = 0xA5;
@@ -113,6 +170,34 @@ fn differ<T: std::fmt::Debug>(what: &str, bytes: &[u8], offset: usize, one: T, o
 }
 
 impl Pair<'_> {
+    fn images(&mut self, kind: u32) -> Option<&mut Images> {
+        match kind {
+            OLD_IMAGE => Some(&mut self.seen.old_images),
+            IMAGE => Some(&mut self.seen.images),
+            _ => None,
+        }
+    }
+
+    /// Counts the reading of a record that says of itself that it is an image.
+    fn enter_image(&mut self, bytes: &[u8], offset: usize, room: usize, number: u32) {
+        let kind = bytes.get(offset..).and_then(|left| left.get(2..4));
+        let Some(images) = kind.and_then(|kind| self.images(u16::from_le_bytes([kind[0], kind[1]]).into())) else {
+            return;
+        };
+        match number {
+            0 => {
+                images.read += 1;
+                images.read_with_no_word_more += u64::from(room == IMAGE_COMMANDS);
+            }
+            captures::CUT => images.cut += 1,
+            captures::NO_ROOM => {
+                images.one_word_short += u64::from(room == IMAGE_COMMANDS - 1);
+                images.room_of_256 += u64::from(room == OLD_IMAGE_COMMANDS);
+            }
+            _ => {}
+        }
+    }
+
     /// Reads the record at an offset with room for so many commands, and asks for kind, offset and refusal alone.
     fn read(&mut self, bytes: &[u8], offset: usize, room: usize) -> Result<(Answer, Vec<u32>), String> {
         let mut words = vec![WORDS_BEFORE; room + 2 * BESIDE];
@@ -133,6 +218,7 @@ impl Pair<'_> {
             return Err(differ("kind, offset behind and refusal", bytes, offset, peek, other_peek));
         }
         enter(&mut self.seen.read, one.number);
+        self.enter_image(bytes, offset, room, one.number);
         Ok((one, words[BESIDE..BESIDE + room].to_vec()))
     }
 
@@ -152,6 +238,11 @@ impl Pair<'_> {
             return Err(differ("bytes written beside a refusal", output, offset, one, other));
         }
         enter(&mut self.seen.written, one.0);
+        if let Some(images) = self.images(record.kind) {
+            images.written += u64::from(one.0 == 0);
+            let other_count = [OLD_IMAGE_COMMANDS, IMAGE_COMMANDS].contains(&record.commands.len());
+            images.other_count += u64::from(one.0 == captures::BAD_LENGTH && other_count);
+        }
         Ok((one, bytes[lent].to_vec()))
     }
 
@@ -242,7 +333,7 @@ impl Pair<'_> {
         if dice.chance(if with_image { 4 } else { 10 }) {
             self.cut_everywhere(&bytes, &starts)?;
         }
-        let room = dice.one_of(&[0, 1, 255, 255, 256, 257, 512]) as usize;
+        let room = ROOMS[dice.below(ROOMS.len() as u32) as usize];
         self.read_all(&bytes, room)?;
         self.refused_writes(dice, &list, &bytes)?;
         if dice.chance(5) {
@@ -274,7 +365,7 @@ impl Pair<'_> {
         self.write(bytes, offset, record)?;
         let bad = bad_record(dice, record);
         let offset = if dice.chance(70) { 0 } else { any_offset(dice, bytes.len()) };
-        let output = vec![BYTE_BEFORE; dice.one_of(&[0, 13, 14, 15, 1_029, 1_030, 2_100]) as usize];
+        let output = vec![BYTE_BEFORE; OUTPUTS[dice.below(OUTPUTS.len() as u32) as usize]];
         self.write(&output, offset, &bad)?;
         self.write(&output, offset, record)?;
         Ok(())
@@ -287,7 +378,11 @@ fn any_offset(dice: &mut Dice, length: usize) -> usize {
         0 | 1 => dice.below(length as u32 + 1) as usize,
         2 => length,
         3 => length + 1 + dice.below(20) as usize,
-        4 => usize::MAX - dice.one_of(&[0, 1, 2, 3, 11, 12, 13, 14, 1_029, 1_030]) as usize,
+        4 => {
+            usize::MAX
+                - dice.one_of(&[0, 1, 2, 3, 11, 12]) as usize
+                - OUTPUTS[dice.below(OUTPUTS.len() as u32) as usize]
+        }
         _ => (usize::MAX - length).wrapping_add(dice.below(3) as usize),
     }
 }

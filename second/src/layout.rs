@@ -1,7 +1,7 @@
 //! Where each number stands in the lent words (docs/MEMORY.md).
 
 /// Words of the module part.
-pub const MODULE_WORDS: usize = COUNTERS + CHANNELS as usize;
+pub const MODULE_WORDS: usize = LAYOUT + 1;
 /// Words of a channel's block.
 pub const BLOCK_WORDS: usize = SCHEDULE_RAM + COMMANDS;
 /// The most channels a module has.
@@ -13,7 +13,13 @@ pub const INDEXES: usize = 1024;
 /// Words of the message RAM.
 pub const MESSAGES: usize = 256;
 /// Words of the schedule RAM.
-pub const COMMANDS: usize = 256;
+pub const COMMANDS: usize = 512;
+/// The greatest command address.
+pub const LAST_COMMAND: u32 = COMMANDS as u32 - 1;
+/// The layout number that power-up writes; any other value is unsound.
+pub const LAYOUT_NUMBER: u32 = 2;
+/// Settings of a channel, from the block's first word.
+pub const SETTINGS: usize = RATE + 1;
 /// Words of a block with a range, from its first.
 pub const RANGED: usize = WORD_MARK + 1;
 
@@ -23,8 +29,9 @@ pub const STAMP: usize = COUNT + 1;
 pub const RESOLUTION: usize = STAMP + 1;
 pub const THRESHOLD: usize = RESOLUTION + 1;
 pub const COUNTERS: usize = THRESHOLD + 1;
+pub const LAYOUT: usize = COUNTERS + CHANNELS as usize;
 
-// A channel's block; words 0 to 11 are the settings, by number.
+// A channel's block; its first words are the settings, by number.
 pub const RECEIVER: usize = 0;
 pub const TRANSMITTER: usize = RECEIVER + 1;
 pub const PARITY: usize = TRANSMITTER + 1;
@@ -76,27 +83,27 @@ pub fn block(channel: u32) -> usize {
 
 /// Least and greatest value of the block's first words.
 pub const RANGES: [(u32, u32); RANGED] = [
-    (0, 1),         // receiver
-    (0, 1),         // transmitter
-    (0, 1),         // parity
-    (0, 1),         // match
-    (0, 1),         // stamps
-    (0, 1),         // receive mode
-    (0, 1),         // FIFO kind
-    (0, 2),         // transmit mode
-    (1, 255),       // receive FIFO size
-    (0, 255),       // almost full threshold
-    (0, 255),       // almost empty threshold
-    (4, 1_048_575), // transmit rate
-    (0, 255),       // receive level, and at most the size
-    (0, 254),       // receive position
-    (0, 255),       // transmit level
-    (0, 254),       // transmit position
-    (0, 2),         // transmitter state
-    (0, 255),       // command address
-    (0, 1),         // async mark
-    (0, 127),       // latch mask
-    (0, 127),       // enable mask
-    (0, 127),       // level mask
-    (0, 1),         // word mark
+    (0, 1),            // receiver
+    (0, 1),            // transmitter
+    (0, 1),            // parity
+    (0, 1),            // match
+    (0, 1),            // stamps
+    (0, 1),            // receive mode
+    (0, 1),            // FIFO kind
+    (0, 2),            // transmit mode
+    (1, 255),          // receive FIFO size
+    (0, 255),          // almost full threshold
+    (0, 255),          // almost empty threshold
+    (4, 1_048_575),    // transmit rate
+    (0, 255),          // receive level, and at most the size
+    (0, 254),          // receive position
+    (0, 255),          // transmit level
+    (0, 254),          // transmit position
+    (0, 2),            // transmitter state
+    (0, LAST_COMMAND), // command address
+    (0, 1),            // async mark
+    (0, 127),          // latch mask
+    (0, 127),          // enable mask
+    (0, 127),          // level mask
+    (0, 1),            // word mark
 ];

@@ -94,12 +94,12 @@ impl<T: Copy + PartialEq + std::fmt::Debug> Register<T> {
 
 #[derive(Clone, Debug)]
 pub struct Book {
-    pub settings: [u32; 12],
+    pub settings: [u32; SETTINGS],
     pub receive: Register<[u32; 3]>,
     pub transmit: Register<u32>,
 }
 
-const FACTORY: [u32; 12] = [0, 0, 1, 0, 0, 0, 0, 0, 255, 128, 32, 4];
+const FACTORY: [u32; SETTINGS] = [0, 0, 1, 0, 0, 0, 0, 0, 255, 128, 32, 4];
 
 #[derive(Clone, Debug, Default)]
 pub struct Ledger {
@@ -182,7 +182,7 @@ impl Ledger {
         same("threshold", self.threshold, mem[THRESHOLD])?;
         for (place, book) in self.channels.iter().enumerate() {
             let ch = &mem[block(place as u32 + 1)..][..BLOCK_WORDS];
-            same("settings", &book.settings[..], &ch[..12])?;
+            same("settings", &book.settings[..], &ch[..SETTINGS])?;
             same("counts", &book.counts()[..], &ch[RECEIVE_ACCEPTED..=TRANSMIT_CLEARED])?;
             same("receive level", book.receive.held().count(), ch[RECEIVE_LEVEL] as usize)?;
             same("transmit level", book.transmit.held().count(), ch[TRANSMIT_LEVEL] as usize)?;
@@ -265,7 +265,7 @@ impl Book {
     /// The entry of Receive, by the settings and the stamp of the history.
     fn entry(&self, word: u32, stamp: u32) -> [u32; 3] {
         if self.settings[RECEIVE_MODE] == 1 {
-            return [0, word & 1023, 0];
+            return [0, word % INDEXES as u32, 0];
         }
         let error = self.settings[PARITY] == 1 && word.count_ones() & 1 == 0;
         [error.into(), word, if self.settings[STAMPS] == 1 { stamp } else { 0 }]

@@ -85,7 +85,7 @@ impl Dice {
 }
 
 /// Numbers that stand at or beside the end of a range.
-const EDGES: [u32; 24] = [
+const EDGES: [u32; 27] = [
     0,
     1,
     2,
@@ -100,6 +100,9 @@ const EDGES: [u32; 24] = [
     254,
     255,
     256,
+    257,
+    511,
+    512,
     1023,
     1024,
     65_534,
@@ -115,13 +118,20 @@ const EDGES: [u32; 24] = [
 /// Values of message RAM around the ends of a gap.
 const GAPS: [u32; 14] = [0, 3, 4, 5, 36, 38, 39, 40, 41, 100, 1_048_574, 1_048_575, 1_048_576, 0xFFFF_FFFF];
 
+/// The first command address with the ninth bit set.
+pub const NINTH_BIT: u32 = COMMANDS as u32 / 2;
+
+/// A jump command; its target is in bits 8 to 0.
+const JUMP: u32 = 0x6000;
+
 /// Ranges of the module part, word by word; the stamp may hold anything.
 const PART_RANGES: [(u32, u32); MODULE_WORDS] = {
     let mut ranges = [(0, 65_536); MODULE_WORDS];
-    ranges[COUNT] = (1, 12);
+    ranges[COUNT] = (1, CHANNELS);
     ranges[STAMP] = (0, u32::MAX);
     ranges[RESOLUTION] = (0, 3);
     ranges[THRESHOLD] = (1, 65_535);
+    ranges[LAYOUT] = (LAYOUT_NUMBER, LAYOUT_NUMBER);
     ranges
 };
 
@@ -207,7 +217,7 @@ pub fn list(seed: u64, calls: usize) -> List {
         1 => (0..words).map(|_| dice.word()).collect(),
         _ => (0..words).map(|_| dice.below(3)).collect(),
     };
-    let indices = std::array::from_fn(|_| dice.below(1024));
+    let indices = std::array::from_fn(|_| dice.below(INDEXES as u32));
     let mut writer = Writer { dice, count, theme, indices, memory, events: vec![] };
     if !matches!(kind, Memory::Unpowered) {
         writer.call(POWER_UP, 0, count, 0);
@@ -228,10 +238,16 @@ pub fn list(seed: u64, calls: usize) -> List {
     List { seed, memory: writer.memory, events: writer.events }
 }
 
+/// A length around the module part's.
+fn around_the_part(dice: &mut Dice) -> usize {
+    let part = MODULE_WORDS as u32;
+    dice.one_of(&[0, 1, part - 1, part - 1, part, part + 1]) as usize
+}
+
 /// Lengths at and beside each need.
 fn short_length(dice: &mut Dice) -> usize {
     match dice.below(4) {
-        0 => dice.one_of(&[0, 1, 2, 15, 16, 17]) as usize,
+        0 => around_the_part(dice),
         1 => dice.below(need(3) as u32) as usize,
         _ => {
             let count = 1 + dice.below(3);
@@ -271,7 +287,7 @@ impl Writer {
             self.call(WRITE_RECEIVER, channel, 1 - off, 0);
             let off = u32::from(self.dice.chance(8));
             self.call(WRITE_TRANSMITTER, channel, 1 - off, 0);
-            for setting in 2..12 {
+            for setting in 2..SETTINGS as u32 {
                 if self.dice.chance(50) {
                     let value = self.sound_value(setting);
                     self.call(SETTING_WRITE + setting, channel, value, 0);
@@ -295,9 +311,13 @@ impl Writer {
         }
     }
 
-    /// A schedule of some commands from address 0 on, and gaps in the message RAM.
+    /// A schedule of some commands from address 0 on, up to the ninth bit or over it, or up to the RAM's end, and gaps in the message RAM.
     fn schedule(&mut self, channel: u32) {
-        let from = if self.dice.chance(65) { 0 } else { 246 };
+        let from = match self.dice.below(20) {
+            0..=11 => 0,
+            12..=14 => NINTH_BIT - 1 - self.dice.below(8),
+            _ => LAST_COMMAND - 9,
+        };
         for address in from..from + 2 + self.dice.below(8) {
             let command = self.command();
             self.call(SCHEDULE_WRITE, channel, address, command);
@@ -307,8 +327,8 @@ impl Writer {
             self.call(MESSAGE_WRITE, channel, address, gap);
         }
         if from > 0 {
-            let target = 246 + self.dice.below(11);
-            self.call(SCHEDULE_WRITE, channel, 0, 0x6000 | target);
+            let target = from + self.dice.below(10);
+            self.call(SCHEDULE_WRITE, channel, 0, JUMP | target);
         }
     }
 
@@ -317,21 +337,23 @@ impl Writer {
             if self.dice.chance(80) { self.dice.one_of(&[1, 1, 2, 2, 2, 3, 4, 5, 6]) } else { self.dice.below(16) };
         let low = match (code, self.dice.below(6)) {
             (6, 0..=2) => self.dice.below(16),
-            (6, 3 | 4) => 246 + self.dice.below(20),
+            (6, 3) => NINTH_BIT - 10 + self.dice.below(20),
+            // Beyond the last address only the nine low bits count.
+            (6, 4) => LAST_COMMAND - 9 + self.dice.below(20),
             (_, 0..=4) => self.dice.below(8),
             _ => self.dice.below(4096),
         };
         self.other_bits() | code << 12 | low
     }
 
-    /// A command that sends nothing: stop, pause, interrupt, a jump back, and the reserved ones.
+    /// A command that sends nothing: stop, pause, interrupt, a jump to either half of the RAM, and the reserved ones.
     fn silent_command(&mut self) -> u32 {
         let command = match self.dice.below(6) {
             0 => 0x0000,
             1 => 0x4000,
             2 => 0x5000,
-            3 => 0x6000 | self.dice.one_of(&[0, 0, 1, 255]),
-            4 => 0x6100 | self.dice.one_of(&[0, 0, 1, 3, 254, 255]),
+            3 => JUMP | self.dice.one_of(&[0, 0, 1, NINTH_BIT - 1]),
+            4 => JUMP | self.dice.one_of(&[NINTH_BIT, NINTH_BIT, NINTH_BIT + 1, LAST_COMMAND - 1, LAST_COMMAND]),
             _ => (7 + self.dice.below(9)) << 12,
         };
         self.other_bits() | command
@@ -378,7 +400,7 @@ impl Writer {
         } else {
             let beyond = self.count + 1;
             let any = self.dice.word();
-            self.dice.one_of(&[0, beyond, 12, 13, any, 0xFFFF_FFFF])
+            self.dice.one_of(&[0, beyond, CHANNELS, CHANNELS + 1, any, 0xFFFF_FFFF])
         }
     }
 
@@ -404,18 +426,30 @@ impl Writer {
 
     fn index(&mut self) -> u32 {
         match self.dice.below(16) {
-            0 | 1 => 1024,
-            2..=4 => self.argument(1023),
+            0 | 1 => INDEXES as u32,
+            2..=4 => self.argument(INDEXES as u32 - 1),
             _ => self.dice.one_of(&self.indices.clone()),
         }
     }
 
-    fn address(&mut self) -> u32 {
-        match self.dice.below(4) {
-            0 if self.dice.chance(50) => 256,
-            0 => self.argument(255),
-            1 => 248 + self.dice.below(8),
+    /// An address of a RAM of so many words: low, near its end, or behind it.
+    fn address(&mut self, words: usize) -> u32 {
+        let end = words as u32;
+        match self.dice.below(8) {
+            0 => end,
+            1 => self.argument(end - 1),
+            2 => end - 1,
+            3 => end - 8 + self.dice.below(8),
             _ => self.dice.below(8),
+        }
+    }
+
+    /// A command address; in some cases beside the ninth bit.
+    fn command_address(&mut self) -> u32 {
+        if self.dice.chance(20) {
+            NINTH_BIT - 2 + self.dice.below(4)
+        } else {
+            self.address(COMMANDS)
         }
     }
 
@@ -460,7 +494,7 @@ impl Writer {
             (_, 1..=14) => self.module_wide(),
             (_, 15..=46) => self.write_setting(channel),
             (_, 47..=54) => {
-                let setting = self.dice.below(12);
+                let setting = self.dice.below(SETTINGS as u32);
                 self.loose(SETTING_READ + setting, channel, 0);
             }
             (_, 55..=58) => {
@@ -489,14 +523,15 @@ impl Writer {
             (1, _) => self.states(channel),
             (2, 2..=31) => self.gaps(channel),
             (2, 32..=69) => self.last_command(channel),
-            (2, 70..=79) => self.interrupts(channel),
+            (2, 70..=77) => self.interrupts(channel),
+            (2, 78..=81) => self.ends_of_rams(channel),
             (2, _) => self.words_in_a_row(channel),
             (_, 2..=36) => self.latches(channel),
             _ => self.samples(channel),
         }
         // Settings of a run do not last.
         for _ in 0..2 {
-            let setting = self.dice.below(12);
+            let setting = self.dice.below(SETTINGS as u32);
             let value = self.sound_value(setting);
             self.loose(SETTING_WRITE + setting, channel, value);
         }
@@ -517,7 +552,8 @@ impl Writer {
                 self.set_up();
             }
             1 | 2 => {
-                let count = self.dice.one_of(&[0, 0, 13, 13, 12, 12, 1, 0xFFFF_FFFF]);
+                let (most, more) = (CHANNELS, CHANNELS + 1);
+                let count = self.dice.one_of(&[0, 0, more, more, most, most, 1, 0xFFFF_FFFF]);
                 // A smaller count that is accepted leaves the other channels unknown from here on.
                 if count == 1 {
                     self.count = 1;
@@ -561,7 +597,7 @@ impl Writer {
     }
 
     fn write_setting(&mut self, channel: u32) {
-        let setting = self.dice.below(12);
+        let setting = self.dice.below(SETTINGS as u32);
         let value = match self.dice.below(20) {
             0 | 1 => self.dice.one_of(&EDGES),
             2..=10 => self.end_of(RANGES[setting as usize]),
@@ -636,12 +672,12 @@ impl Writer {
         for place in 0..315 {
             word = word.wrapping_add(1);
             self.loose(ARRIVAL, channel, word);
-            if place > 255 && place % 3 == 0 {
+            if place > SLOTS && place % 3 == 0 {
                 self.loose(FIFO_READ, channel, 0);
             }
         }
         if self.dice.chance(25) {
-            for _ in 0..255 {
+            for _ in 0..SLOTS {
                 self.loose(FIFO_READ, channel, 0);
             }
         }
@@ -673,13 +709,13 @@ impl Writer {
         self.loose(WRITE_TRANSMITTER, channel, 1);
         self.loose(WRITE_TRANSMIT_MODE, channel, mode);
         self.loose(TRIGGER, channel, 0);
-        self.transmit_words(channel, 255);
+        self.transmit_words(channel, SLOTS as u32);
         for _ in 0..25 {
             self.loose(STEP, channel, 0);
             self.transmit_words(channel, 2);
         }
         if self.dice.chance(25) {
-            for _ in 0..255 {
+            for _ in 0..SLOTS {
                 self.loose(STEP, channel, 0);
             }
         }
@@ -713,7 +749,7 @@ impl Writer {
             let word = self.data_word();
             self.loose(ARRIVAL, channel, word);
             for _ in 0..self.dice.below(3) {
-                self.loose(MAILBOX_READ, channel, word % 1024);
+                self.loose(MAILBOX_READ, channel, word % INDEXES as u32);
             }
         }
         let word = self.data_word();
@@ -725,7 +761,7 @@ impl Writer {
             }
         }
         self.loose(WRITE_RECEIVE_MODE, channel, 0);
-        self.loose(MAILBOX_READ, channel, word % 1024);
+        self.loose(MAILBOX_READ, channel, word % INDEXES as u32);
     }
 
     /// Stamps of arrivals while the counter rolls over.
@@ -780,7 +816,7 @@ impl Writer {
         }
         let last = self.silent_command();
         self.call(SCHEDULE_WRITE, channel, 3, last);
-        self.call(SCHEDULE_WRITE, channel, 4, 0x6000);
+        self.call(SCHEDULE_WRITE, channel, 4, JUMP);
         for step in 0..10 + self.dice.below(4) {
             if self.dice.chance(60) {
                 self.async_word(channel);
@@ -821,10 +857,11 @@ impl Writer {
         self.loose(WRITE_TRANSMITTER, channel, 1);
     }
 
-    /// The schedule's last command, reached by a jump; triggers and steps behind it show where it went.
+    /// The schedule's last command, or the last one before the ninth bit, reached by a jump; triggers and steps behind it show where it went.
     fn last_command(&mut self, channel: u32) {
         self.scheduled_from_0(channel);
-        self.call(SCHEDULE_WRITE, channel, 0, 0x60FF);
+        let last = self.dice.one_of(&[LAST_COMMAND, LAST_COMMAND, NINTH_BIT - 1]);
+        self.call(SCHEDULE_WRITE, channel, 0, JUMP | last);
         for _ in 0..6 {
             let command = match self.dice.below(11) {
                 0 => 0x1000 | self.dice.below(8),
@@ -832,10 +869,10 @@ impl Writer {
                 2 => 0x3000 | self.dice.below(8),
                 // Pause and jump have their own rules here.
                 3 => 0x4000,
-                4 => 0x6000 | self.dice.one_of(&[0, 0, 1, 255]),
+                4 => JUMP | self.dice.one_of(&[0, 0, 1, NINTH_BIT, LAST_COMMAND]),
                 _ => self.silent_command(),
             };
-            self.call(SCHEDULE_WRITE, channel, 255, command);
+            self.call(SCHEDULE_WRITE, channel, last, command);
             if self.dice.chance(30) {
                 self.async_word(channel);
             }
@@ -846,11 +883,27 @@ impl Writer {
         self.loose(STEP, channel, 0);
     }
 
+    /// Words written and read at the ends of both RAMs, behind them, and on both sides of the ninth bit.
+    fn ends_of_rams(&mut self, channel: u32) {
+        for _ in 0..6 {
+            let commands = COMMANDS as u32;
+            let address = self.dice.one_of(&[0, NINTH_BIT - 1, NINTH_BIT, LAST_COMMAND, commands]);
+            let command = self.command();
+            self.call(SCHEDULE_WRITE, channel, address, command);
+            self.loose(SCHEDULE_READ, channel, address);
+            let messages = MESSAGES as u32;
+            let address = self.dice.one_of(&[0, messages - 1, messages, messages + 1, LAST_COMMAND]);
+            let word = self.gap();
+            self.call(MESSAGE_WRITE, channel, address, word);
+            self.loose(MESSAGE_READ, channel, address);
+        }
+    }
+
     /// Interrupt commands, with the latches cleared between them.
     fn interrupts(&mut self, channel: u32) {
         self.scheduled_from_0(channel);
         self.call(SCHEDULE_WRITE, channel, 0, 0x5000);
-        self.call(SCHEDULE_WRITE, channel, 1, 0x6000);
+        self.call(SCHEDULE_WRITE, channel, 1, JUMP);
         self.level_mask(channel);
         self.loose(TRIGGER, channel, 0);
         for _ in 0..4 {
@@ -1001,16 +1054,20 @@ impl Writer {
         match op {
             WRITE_TRANSMIT_MODE => self.loose(op, channel, 2),
             SCHEDULE_WRITE => {
-                let (address, command) = (self.address(), self.command());
+                let (address, command) = (self.command_address(), self.command());
                 self.call(op, channel, address, command);
             }
             MESSAGE_WRITE => {
-                let address = self.address();
+                let address = self.address(MESSAGES);
                 let word = if self.dice.chance(70) { self.dice.one_of(&GAPS) } else { self.dice.word() };
                 self.call(op, channel, address, word);
             }
-            SCHEDULE_READ | MESSAGE_READ => {
-                let address = self.address();
+            SCHEDULE_READ => {
+                let address = self.command_address();
+                self.loose(op, channel, address);
+            }
+            MESSAGE_READ => {
+                let address = self.address(MESSAGES);
                 self.loose(op, channel, address);
             }
             _ => {
@@ -1055,7 +1112,7 @@ impl Writer {
     fn damage(&mut self) {
         let channel = 1 + self.dice.below(self.count);
         let first = block(channel);
-        match self.dice.below(20) {
+        match self.dice.below(21) {
             // Within its range: states that a list alone reaches late.
             0..=2 => {
                 let word = self.dice.below(RANGED as u32);
@@ -1112,6 +1169,7 @@ impl Writer {
             11 => self.mark_set_by_others(channel),
             12 | 13 => self.list_of_others(channel),
             14..=18 => self.outside_its_range(channel),
+            19 => self.layout_of_others(channel),
             _ => {
                 let (word, value) = (self.dice.below(self.memory.len() as u32), self.dice.word());
                 self.overwrite(word as usize, value);
@@ -1131,9 +1189,10 @@ impl Writer {
             let word = self.dice.below(RANGED as u32) as usize;
             (block(channel) + word, RANGES[word])
         } else {
-            // Twelve of the sixteen words are counters.
-            let word =
-                if self.dice.chance(70) { self.dice.below(4) } else { self.dice.below(MODULE_WORDS as u32) } as usize;
+            // Most of the words are counters.
+            let single = self.dice.one_of(&[COUNT, STAMP, RESOLUTION, THRESHOLD, LAYOUT].map(|word| word as u32));
+            let any = self.dice.below(MODULE_WORDS as u32);
+            let word = if self.dice.chance(75) { single } else { any } as usize;
             (word, PART_RANGES[word])
         };
         let value = match self.dice.below(10) {
@@ -1155,6 +1214,27 @@ impl Writer {
             _ => range.0,
         };
         self.overwrite(place, sound);
+    }
+
+    /// A layout number that is not this layout's, met by calls of every kind; then this layout's again, or a power-up.
+    fn layout_of_others(&mut self, channel: u32) {
+        let edge = self.dice.one_of(&EDGES);
+        let number = self.dice.one_of(&[0, LAYOUT_NUMBER - 1, LAYOUT_NUMBER + 1, edge]);
+        self.overwrite(LAYOUT, number);
+        let wide = self.dice.one_of(&[MODULE_RESET, STAMP_READ, STAMP_ZERO]);
+        for op in [wide, THRESHOLD_WRITE, STATUS_READ] {
+            self.loose(op, channel, 1);
+        }
+        for _ in 0..2 {
+            self.refusable_call(channel);
+            self.single_call();
+        }
+        if self.dice.chance(50) {
+            self.overwrite(LAYOUT, LAYOUT_NUMBER);
+        } else {
+            self.call(POWER_UP, 0, self.count, 0);
+            self.set_up();
+        }
     }
 
     /// A call that its argument or the channel's state may refuse too.
@@ -1218,12 +1298,12 @@ impl Writer {
     fn stored_count_or_power_up(&mut self) {
         // The count whose need stands nearest to the lent words.
         let nearest = ((self.memory.len() + 1).saturating_sub(MODULE_WORDS) / BLOCK_WORDS) as u32;
-        let count = self.dice.one_of(&[0, 1, 2, 3, 4, 12, 13, 0xFFFF_FFFF, nearest, nearest, nearest]);
+        let count = self.dice.one_of(&[0, 1, 2, 3, 4, CHANNELS, CHANNELS + 1, 0xFFFF_FFFF, nearest, nearest, nearest]);
         if self.dice.chance(50) {
             self.overwrite(COUNT, count);
         } else {
             self.call(POWER_UP, 0, count, 0);
-            if need(count.min(12)) <= self.memory.len() && (1..=12).contains(&count) {
+            if need(count.min(CHANNELS)) <= self.memory.len() && (1..=CHANNELS).contains(&count) {
                 self.count = count;
                 self.set_up();
             }
@@ -1233,7 +1313,7 @@ impl Writer {
     fn lend(&mut self) {
         let whole = self.memory.len();
         let words = match self.dice.below(5) {
-            0 => self.dice.one_of(&[0, 1, 15, 15, 16, 17]) as usize,
+            0 => around_the_part(&mut self.dice),
             1 => self.dice.below(whole as u32) as usize,
             2 => need(1 + self.dice.below(self.count)) - 1,
             3 => need(1 + self.dice.below(self.count)),

@@ -17,7 +17,7 @@ use second::calls::{Item, NO_CALL};
 use second::capture_programs::{make, show};
 use second::compare::{compare, LIST_CALLS};
 use second::engine::{AsModel, Engine, OnWords};
-use second::layout::need;
+use second::layout::{need, CHANNELS};
 use second::lists::{lists, Dice, Event};
 
 const USE: &str = "second compare --calls N --seed S | list --calls N --seed S | replay
@@ -128,11 +128,12 @@ fn captures(seed: u64) -> ExitCode {
     match compare(200_000, seed, &mut OwnCaptures, &mut second::proved_captures::ProvedCaptures) {
         Ok(seen) => {
             let captures = format!("{} random captures, {} with images", seen.captures, seen.with_images);
+            let images = format!("of kind 2 ({}), of kind 3 ({})", seen.old_images.shown(), seen.images.shown());
             let cuts = format!("{} of them cut at each of {} bytes", seen.cut, seen.cuts);
             let answers = format!("read ({}), written ({})", shown(&seen.read), shown(&seen.written));
             let again = format!("{} lists and {} captures there and back", seen.lists_again, seen.bytes_again);
             let seconds = start.elapsed().as_secs_f64();
-            println!("captures: {captures}, {cuts}; {answers}; {again}, {seconds:.2} s, no difference");
+            println!("captures: {captures} {images}, {cuts}; {answers}; {again}, {seconds:.2} s, no difference");
             ExitCode::SUCCESS
         }
         Err(difference) => {
@@ -190,7 +191,7 @@ fn random_capture(records: u32, bad: u32, long: bool, seed: u64) -> io::Result<(
 
 /// Memory for twelve channels starts as all zeros. A cut last item is no call.
 fn replay() -> io::Result<()> {
-    let mut mem = vec![0; need(12)];
+    let mut mem = vec![0; need(CHANNELS)];
     let mut out = io::BufWriter::new(io::stdout().lock());
     for item in whole_input()?.chunks(16) {
         let answer = match Item::of_bytes(item) {

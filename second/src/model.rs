@@ -6,7 +6,7 @@
 use std::collections::VecDeque;
 
 use crate::calls::{Call, Item, NO_CALL};
-use crate::layout::need;
+use crate::layout::{need, CHANNELS, COMMANDS, INDEXES, LAST_COMMAND, MESSAGES, SLOTS};
 
 #[derive(Clone, Copy, PartialEq, Eq, Debug)]
 pub enum ReceiveMode {
@@ -319,10 +319,10 @@ impl Channel {
             enables: [false; 7],
             levels: [false; 7],
             counts: Counts::default(),
-            mailboxes: vec![Entry::default(); 1024],
-            match_set: vec![false; 1024],
-            message: vec![0; 256],
-            schedule: vec![0; 256],
+            mailboxes: vec![Entry::default(); INDEXES],
+            match_set: vec![false; INDEXES],
+            message: vec![0; MESSAGES],
+            schedule: vec![0; COMMANDS],
         }
     }
 
@@ -330,7 +330,7 @@ impl Channel {
     fn clear_receive(&mut self) {
         if self.settings.receive_mode == ReceiveMode::Mailbox {
             for entry in &self.receive {
-                self.mailboxes[entry.word as usize % 1024].lose_mark();
+                self.mailboxes[entry.word as usize % INDEXES].lose_mark();
             }
         }
         count(&mut self.counts.receive_cleared, self.receive.len());
@@ -434,7 +434,7 @@ impl Channel {
 
     /// Gives the outcome's number.
     fn arrival(&mut self, word: u32, stamp: u32, signals: &mut Signals) -> u32 {
-        let index = word % 1024;
+        let index = word % INDEXES as u32;
         if !self.settings.receiver {
             return IGNORED;
         }
@@ -456,7 +456,7 @@ impl Channel {
                     // An index that is lost leaves its mark clear.
                     Appending::Dropped => false,
                     Appending::Overwriting { oldest } => {
-                        self.mailboxes[oldest.word as usize % 1024].lose_mark();
+                        self.mailboxes[oldest.word as usize % INDEXES].lose_mark();
                         true
                     }
                     // The mark that it had.
@@ -508,8 +508,7 @@ impl Channel {
     fn command(&mut self, signals: &mut Signals) -> Output {
         let address = self.command;
         let command = self.schedule[address as usize];
-        let stored = self.message[command as usize % 256];
-        let target = command % 512;
+        let stored = self.message[command as usize % MESSAGES];
         match command / 4096 % 16 {
             0 => {
                 self.idle_at_command_0();
@@ -552,8 +551,9 @@ impl Channel {
                 self.next_command();
                 Output::Quiet
             }
-            6 if target < 256 => {
-                self.command = target;
+            6 => {
+                // Bits 8 to 0: the manual's jump has nine address bits, and each address is a command's.
+                self.command = command % COMMANDS as u32;
                 Output::Quiet
             }
             _ => {
@@ -563,9 +563,9 @@ impl Channel {
         }
     }
 
-    /// After command 255, a pause too, the transmitter is idle at command 0 in the same step.
+    /// After the last command, a pause too, the transmitter is idle at command 0 in the same step.
     fn next_command(&mut self) {
-        if self.command == 255 {
+        if self.command == LAST_COMMAND {
             self.idle_at_command_0();
         } else {
             self.command += 1;
@@ -574,8 +574,11 @@ impl Channel {
 
     /// A call on this channel, refused with no change or done. Status and pending are read behind the rule.
     fn act(&mut self, call: Call, stamp: u32, counter: &mut u32, signals: &mut Signals) -> Result<Vec<u32>, Refusal> {
-        let index_of = |index: u32| if index <= 1023 { Ok(index as usize) } else { Err(RANGE) };
-        let address_of = |address: u32| if address <= 255 { Ok(address as usize) } else { Err(RANGE) };
+        let place =
+            |number: u32, places: usize| if (number as usize) < places { Ok(number as usize) } else { Err(RANGE) };
+        let index_of = |index: u32| place(index, INDEXES);
+        let command_at = |address: u32| place(address, COMMANDS);
+        let message_at = |address: u32| place(address, MESSAGES);
         Ok(match call {
             Call::WriteSetting { setting, value } => {
                 self.write_setting(setting, value)?;
@@ -601,7 +604,7 @@ impl Channel {
             }
             Call::ReadMatch { index } => vec![self.match_set[index_of(index)?].into()],
             Call::WriteTransmitFifo { word } => {
-                if self.transmit.len() == 255 {
+                if self.transmit.len() == SLOTS {
                     return Err(FULL);
                 }
                 self.transmit.push_back(word);
@@ -638,15 +641,15 @@ impl Channel {
             }
             Call::Step => self.step(signals).shown(),
             Call::WriteSchedule { address, command } => {
-                self.schedule[address_of(address)?] = command;
+                self.schedule[command_at(address)?] = command;
                 vec![]
             }
-            Call::ReadSchedule { address } => vec![self.schedule[address_of(address)?]],
+            Call::ReadSchedule { address } => vec![self.schedule[command_at(address)?]],
             Call::WriteMessage { address, word } => {
-                self.message[address_of(address)?] = word;
+                self.message[message_at(address)?] = word;
                 vec![]
             }
-            Call::ReadMessage { address } => vec![self.message[address_of(address)?]],
+            Call::ReadMessage { address } => vec![self.message[message_at(address)?]],
             Call::Sample { result } => {
                 *counter = if on_or_off(result).ok_or(RANGE)? {
                     (*counter + 2).min(65_536)
@@ -702,18 +705,18 @@ impl Channel {
     }
 }
 
-/// The module part but for the channel count.
+/// The module part but for the channel count, and for the layout number, which a sound part always has.
 #[derive(Clone, PartialEq, Eq, Debug)]
 pub struct Part {
     pub stamp: u32,
     pub resolution: u32,
     pub threshold: u32,
-    pub counters: [u32; 12],
+    pub counters: [u32; CHANNELS as usize],
 }
 
 impl Part {
     pub fn factory() -> Part {
-        Part { stamp: 0, resolution: 0, threshold: 5, counters: [0; 12] }
+        Part { stamp: 0, resolution: 0, threshold: 5, counters: [0; CHANNELS as usize] }
     }
 
     /// 004: fault when the threshold is surpassed.
@@ -740,7 +743,7 @@ impl Model {
         let done = match call {
             Call::PowerUp { count } => self.power_up(lent, count),
             _ if lent < need(0) => Err(SHORT),
-            _ if (1..=12).contains(&self.stored_count) && lent < need(self.stored_count) => Err(SHORT),
+            _ if (1..=CHANNELS).contains(&self.stored_count) && lent < need(self.stored_count) => Err(SHORT),
             _ if call.is_module_wide() => self.on_module(call),
             _ => self.on_channel(item.channel, call),
         };
@@ -751,7 +754,7 @@ impl Model {
     }
 
     fn power_up(&mut self, lent: usize, count: u32) -> Result<Vec<u32>, Refusal> {
-        if !(1..=12).contains(&count) {
+        if !(1..=CHANNELS).contains(&count) {
             return Err(RANGE);
         }
         if lent < need(count) {

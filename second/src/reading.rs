@@ -10,8 +10,8 @@ fn entry(words: &[u32]) -> Entry {
 /// A channel from its block; none where a stored number is outside its range.
 fn channel(block: &[u32]) -> Option<Channel> {
     let mut settings = Settings::factory();
-    for setting in 0..12 {
-        settings.set(setting, block[setting as usize])?;
+    for setting in 0..SETTINGS {
+        settings.set(setting as u32, block[setting])?;
     }
     let (rx_level, rx_position) = (block[RECEIVE_LEVEL] as usize, block[RECEIVE_POSITION] as usize);
     let (tx_level, tx_position) = (block[TRANSMIT_LEVEL] as usize, block[TRANSMIT_POSITION] as usize);
@@ -29,7 +29,7 @@ fn channel(block: &[u32]) -> Option<Channel> {
         1 => Some(block[ASYNC_WORD]),
         _ => return None,
     };
-    if block[COMMAND] > 255 {
+    if block[COMMAND] as usize >= COMMANDS {
         return None;
     }
     Some(Channel {
@@ -69,7 +69,8 @@ fn part(mem: &[u32]) -> Option<Part> {
         threshold: mem[THRESHOLD],
         counters: std::array::from_fn(|place| mem[COUNTERS + place]),
     };
-    let sound = (1..=12).contains(&mem[COUNT])
+    let sound = (1..=CHANNELS).contains(&mem[COUNT])
+        && mem[LAYOUT] == LAYOUT_NUMBER
         && part.resolution <= 3
         && (1..=65_535).contains(&part.threshold)
         && part.counters.iter().all(|&counter| counter <= 65_536);
@@ -83,7 +84,7 @@ impl Model {
             return Model { stored_count: 0, part: None, channels: vec![] };
         }
         let count = mem[COUNT];
-        let held = if (1..=12).contains(&count) && need(count) <= mem.len() { count } else { 0 };
+        let held = if (1..=CHANNELS).contains(&count) && need(count) <= mem.len() { count } else { 0 };
         Model {
             stored_count: count,
             part: part(mem),
@@ -130,7 +131,7 @@ fn channel_difference(mine: &Channel, theirs: &Channel) -> String {
         };
     }
     tell!(settings, receive, transmit, state, command, waiting, after_word, latches, enables, levels, counts);
-    for index in 0..1024 {
+    for index in 0..INDEXES {
         if mine.mailboxes[index] != theirs.mailboxes[index] {
             return format!("mailbox {index}: model {:?}, words {:?}", mine.mailboxes[index], theirs.mailboxes[index]);
         }

@@ -6,8 +6,8 @@
 use crate::layout::*;
 use crate::ops::*;
 
-/// Factory values of the settings, words 0 to 11 of a block.
-const FACTORY: [u32; 12] = [0, 0, 1, 0, 0, 0, 0, 0, 255, 128, 32, 4];
+/// Factory values of the settings.
+const FACTORY: [u32; SETTINGS] = [0, 0, 1, 0, 0, 0, 0, 0, 255, 128, 32, 4];
 const FACTORY_THRESHOLD: u32 = 5;
 
 const IDLE: u32 = 0;
@@ -123,7 +123,8 @@ fn part_is_sound(mem: &[u32]) -> bool {
     mem[RESOLUTION] <= 3
         && mem[THRESHOLD] >= 1
         && mem[THRESHOLD] <= 65_535
-        && mem[COUNTERS..COUNTERS + 12].iter().all(|&counter| counter <= 65_536)
+        && mem[COUNTERS..LAYOUT].iter().all(|&counter| counter <= 65_536)
+        && mem[LAYOUT] == LAYOUT_NUMBER
 }
 
 fn block_is_sound(ch: &[u32]) -> bool {
@@ -138,9 +139,10 @@ fn outside_range(op: u32, a: u32, b: u32) -> bool {
             let (least, greatest) = RANGES[(op - 32) as usize];
             a < least || a > greatest
         }
-        MAILBOX_READ | MATCH_READ => a > 1023,
-        MATCH_WRITE => a > 1023 || b > 1,
-        SCHEDULE_WRITE..=MESSAGE_READ => a > 255,
+        MAILBOX_READ | MATCH_READ => a as usize >= INDEXES,
+        MATCH_WRITE => a as usize >= INDEXES || b > 1,
+        SCHEDULE_WRITE | SCHEDULE_READ => a as usize >= COMMANDS,
+        MESSAGE_WRITE | MESSAGE_READ => a as usize >= MESSAGES,
         SAMPLE | INITIATED_TEST => a > 1,
         LATCH_CLEAR | ENABLE_WRITE | LEVEL_WRITE => a > 127,
         _ => false,
@@ -153,7 +155,7 @@ fn refusal_by_setting(ch: &[u32], op: u32, a: u32) -> u32 {
         WRITE_RECEIVE_SIZE if a < ch[RECEIVE_LEVEL] => 5,
         ASYNC_WRITE if ch[TRANSMIT_MODE] != SCHEDULED => 5,
         TRIGGER if ch[TRANSMITTER] == 0 => 5,
-        FIFO_WRITE if ch[TRANSMIT_LEVEL] == 255 => 6,
+        FIFO_WRITE if ch[TRANSMIT_LEVEL] as usize == SLOTS => 6,
         ASYNC_WRITE if ch[ASYNC_MARK] == 1 => 6,
         FIFO_READ if ch[RECEIVE_LEVEL] == 0 => 7,
         _ => 0,
@@ -166,22 +168,23 @@ fn power_up(mem: &mut [u32], count: u32) {
     mem[..need(count)].fill(0);
     mem[COUNT] = count;
     mem[THRESHOLD] = FACTORY_THRESHOLD;
+    mem[LAYOUT] = LAYOUT_NUMBER;
     for c in 1..=count {
-        mem[block(c)..block(c) + 12].copy_from_slice(&FACTORY);
+        mem[block(c)..block(c) + SETTINGS].copy_from_slice(&FACTORY);
     }
 }
 
-/// The rule is not run; match sets, mailboxes but for the marks of listed ones, both RAMs, counts and the rings' slots stay.
+/// The rule is not run; the layout number, match sets, mailboxes but for the marks of listed ones, both RAMs, counts and the rings' slots stay.
 fn module_reset(mem: &mut [u32]) {
     mem[STAMP] = 0;
     mem[RESOLUTION] = 0;
     mem[THRESHOLD] = FACTORY_THRESHOLD;
-    mem[COUNTERS..COUNTERS + 12].fill(0);
+    mem[COUNTERS..LAYOUT].fill(0);
     for c in 1..=mem[COUNT] {
         let ch = &mut mem[block(c)..][..BLOCK_WORDS];
         clear_receive(ch);
         clear(ch, TRANSMIT_LEVEL, TRANSMIT_CLEARED);
-        ch[..12].copy_from_slice(&FACTORY);
+        ch[..SETTINGS].copy_from_slice(&FACTORY);
         for word in [STATE, COMMAND, ASYNC_MARK, LATCH, ENABLE, LEVEL_MASK, WORD_MARK] {
             ch[word] = 0;
         }
@@ -370,7 +373,7 @@ fn start_anew(ch: &mut [u32]) {
 // Receive.
 
 fn arrival(ch: &mut [u32], stamp: u32, word: u32, answer: &mut Vec<u32>) -> u32 {
-    let index = word % 1024;
+    let index = word % INDEXES as u32;
     if ch[RECEIVER] == 0 {
         answer.push(0);
         return 0;
@@ -525,10 +528,11 @@ fn command(ch: &mut [u32], answer: &mut Vec<u32>) -> u32 {
     let address = ch[COMMAND];
     let command = ch[SCHEDULE_RAM + address as usize];
     let stored = ch[MESSAGE_RAM + (command & 0xFF) as usize];
+    // A jump has nine address bits, a message or gap eight.
     let target = command & 0x1FF;
     let code = command >> 12 & 0xF;
     let mut signals = 0;
-    let reserved = code > 6 || (code == 6 && target > 255);
+    let reserved = code > 6;
     let output = match code {
         // Behind a word: 4 null first.
         1 if ch[WORD_MARK] == 1 => [6, 4, as_sent(ch, stored), 0],
@@ -556,7 +560,7 @@ fn command(ch: &mut [u32], answer: &mut Vec<u32>) -> u32 {
         idle(ch);
     } else if code == 6 {
         ch[COMMAND] = target;
-    } else if address == 255 {
+    } else if address == LAST_COMMAND {
         idle(ch);
     } else {
         ch[COMMAND] = address + 1;

@@ -33,7 +33,7 @@ fn may_write(before: &[u32], word: usize, item: Item) -> bool {
     }
     if word < MODULE_WORDS {
         return match op {
-            2 => word != COUNT,
+            2 => word != COUNT && word != LAYOUT,
             3 | 4 => word == STAMP,
             6 => word == RESOLUTION,
             8 => word == THRESHOLD,
@@ -66,7 +66,7 @@ fn may_write(before: &[u32], word: usize, item: Item) -> bool {
         }
         128 => {
             let slot = (ch[RECEIVE_POSITION] + ch[RECEIVE_LEVEL]) as usize % SLOTS;
-            let mailbox = MAILBOXES + 3 * (a as usize % 1024);
+            let mailbox = MAILBOXES + 3 * (a as usize % INDEXES);
             let full = ch[RECEIVE_LEVEL] == ch[SIZE];
             (RECEIVE_RING + 3 * slot..RECEIVE_RING + 3 * slot + 3).contains(&offset)
                 || [RECEIVE_LEVEL, RECEIVE_POSITION, RECEIVE_ACCEPTED, RECEIVE_OVERWRITTEN].contains(&offset)

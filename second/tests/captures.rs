@@ -1,11 +1,12 @@
 //! The comparison of capture files: it reaches every number, and a capture file with one thing wrong is found out.
 //! The programs that show and make captures.
+//! `cargo test --release --test captures -- --nocapture` prints how often images of each kind are met.
 
 use second::capture_programs::{make, show};
-use second::captures::{self, Record, ARRIVAL, IMAGE, IMAGE_COMMANDS};
-use second::compare_captures::{compare, Answer, CaptureFile, OwnCaptures};
+use second::captures::{self, Record, ARRIVAL, IMAGE, IMAGE_COMMANDS, OLD_IMAGE, OLD_IMAGE_COMMANDS};
+use second::compare_captures::{compare, Answer, CaptureFile, Images, OwnCaptures};
 use second::lists::Dice;
-use second::random_captures::{bytes_of, image, refused_with};
+use second::random_captures::{bytes_of, image_of, refused_with};
 
 type Peeked = (u32, usize, u32);
 
@@ -74,8 +75,24 @@ fn every_number_is_reached() {
 }
 
 #[test]
+fn images_of_both_kinds_are_met_whole_cut_and_with_every_room() {
+    let seen = compare(20_000, 1, &mut OwnCaptures, &mut Wrong { ..RIGHT }).expect("the same captures twice");
+    for (kind, images) in [(OLD_IMAGE, &seen.old_images), (IMAGE, &seen.images)] {
+        let Images { read, read_with_no_word_more, cut, one_word_short, room_of_256, written, other_count } = *images;
+        println!("{read:>7} images of kind {kind} read, {read_with_no_word_more} with {IMAGE_COMMANDS} words lent");
+        println!("{cut:>7} cut: 20");
+        println!("{one_word_short:>7} with {} words lent: 24", IMAGE_COMMANDS - 1);
+        println!("{room_of_256:>7} with {OLD_IMAGE_COMMANDS} words lent: 24");
+        println!("{written:>7} written");
+        println!("{other_count:>7} with the other kind's count of commands: 21");
+        assert!(read > 200 && read_with_no_word_more > 200 && cut > 5_000 && written > 200, "{images:?}");
+        assert!(one_word_short > 20 && room_of_256 > 10 && other_count > 20, "{images:?}");
+    }
+}
+
+#[test]
 fn wrong_readers_are_found_out() {
-    let wrong: [(&str, fn(&[u8], usize, &mut [u32], Answer) -> Answer); 18] = [
+    let wrong: [(&str, fn(&[u8], usize, &mut [u32], Answer) -> Answer); 24] = [
         ("an offset past the end taken for the end", |bytes, offset, _, answer| match answer.number {
             20 if offset > bytes.len() => refused(0, offset),
             _ => answer,
@@ -123,7 +140,7 @@ fn wrong_readers_are_found_out() {
             _ => answer,
         }),
         ("no room told before a channel", |bytes, offset, commands, answer| match short(bytes, offset, 2) {
-            Some(IMAGE) if answer.number == 23 && commands.len() < IMAGE_COMMANDS => refused(24, offset),
+            Some(OLD_IMAGE | IMAGE) if answer.number == 23 && commands.len() < IMAGE_COMMANDS => refused(24, offset),
             _ => answer,
         }),
         ("no room told for an arrival", |_, offset, commands, answer| match answer.kind {
@@ -150,6 +167,43 @@ fn wrong_readers_are_found_out() {
             }
             answer
         }),
+        ("words behind an image of kind 2 zeroed", |_, _, commands, answer| {
+            if answer.kind == OLD_IMAGE {
+                commands[IMAGE_COMMANDS..].fill(0);
+            }
+            answer
+        }),
+        ("kind 2 leaves the words behind its own", |_, _, commands, answer| {
+            if answer.kind == OLD_IMAGE {
+                commands[OLD_IMAGE_COMMANDS..IMAGE_COMMANDS].fill(0xA5A5_A5A5);
+            }
+            answer
+        }),
+        ("kind 2 read with room for its own alone", |bytes, offset, commands, answer| {
+            let own = commands.len() >= OLD_IMAGE_COMMANDS && short(bytes, offset, 2) == Some(OLD_IMAGE);
+            match answer.number {
+                24 if own => {
+                    let answer = OwnCaptures.read(bytes, offset, &mut [0; IMAGE_COMMANDS]);
+                    commands[..OLD_IMAGE_COMMANDS].fill(0);
+                    answer
+                }
+                _ => answer,
+            }
+        }),
+        ("kind 3 read with one word too few", |bytes, offset, commands, answer| match short(bytes, offset, 2) {
+            Some(IMAGE) if answer.number == 24 && commands.len() == IMAGE_COMMANDS - 1 => {
+                OwnCaptures.read(bytes, offset, &mut [0; IMAGE_COMMANDS])
+            }
+            _ => answer,
+        }),
+        ("kind 2 read as kind 3", |_, _, _, answer| match answer.kind {
+            OLD_IMAGE => Answer { kind: IMAGE, ..answer },
+            _ => answer,
+        }),
+        ("kind 3 unknown", |_, offset, _, answer| match answer.kind {
+            IMAGE => refused(22, offset),
+            _ => answer,
+        }),
         ("word and stamp exchanged", |_, _, _, answer| Answer { word: answer.stamp, stamp: answer.word, ..answer }),
     ];
     for (name, read) in wrong {
@@ -160,8 +214,10 @@ fn wrong_readers_are_found_out() {
 
 #[test]
 fn wrong_functions_without_lent_words_are_found_out() {
-    let wrong: [(&str, fn(&[u8], usize, Peeked) -> Peeked); 5] = [
+    let wrong: [(&str, fn(&[u8], usize, Peeked) -> Peeked); 7] = [
         ("24 for an image", |_, offset, peeked| if peeked.0 == IMAGE { (0, offset, 24) } else { peeked }),
+        ("24 for an image of kind 2", |_, offset, peeked| if peeked.0 == OLD_IMAGE { (0, offset, 24) } else { peeked }),
+        ("kind 3 unknown", |_, offset, peeked| if peeked.0 == IMAGE { (0, offset, 22) } else { peeked }),
         ("the kind beside a refusal", |bytes, offset, peeked| match peeked.2 {
             23 => (short(bytes, offset, 2).unwrap(), peeked.1, 23),
             _ => peeked,
@@ -184,7 +240,7 @@ fn wrong_functions_without_lent_words_are_found_out() {
 
 #[test]
 fn wrong_writers_are_found_out() {
-    let wrong: [(&str, fn(&mut [u8], usize, &Record, (u32, usize)) -> (u32, usize)); 12] = [
+    let wrong: [(&str, fn(&mut [u8], usize, &Record, (u32, usize)) -> (u32, usize)); 15] = [
         ("21 for an unknown kind with commands", |_, _, record, answer| match answer.0 {
             22 if !record.commands.is_empty() => (21, 0),
             _ => answer,
@@ -201,12 +257,35 @@ fn wrong_writers_are_found_out() {
             23 => OwnCaptures.write(bytes, offset, &Record { channel: record.channel % 65_536, ..record.clone() }),
             _ => answer,
         }),
-        ("commands beyond 256 left out", |bytes, offset, record, answer| match answer.0 {
+        ("commands beyond 512 left out", |bytes, offset, record, answer| match answer.0 {
             21 if record.kind == IMAGE && record.commands.len() > IMAGE_COMMANDS => {
                 let commands = record.commands[..IMAGE_COMMANDS].to_vec();
                 OwnCaptures.write(bytes, offset, &Record { commands, ..record.clone() })
             }
             _ => answer,
+        }),
+        ("kind 2 written with 512 commands", |bytes, offset, record, answer| match answer.0 {
+            21 if record.kind == OLD_IMAGE && record.commands.len() == IMAGE_COMMANDS => {
+                let commands = record.commands[..OLD_IMAGE_COMMANDS].to_vec();
+                OwnCaptures.write(bytes, offset, &Record { commands, ..record.clone() })
+            }
+            _ => answer,
+        }),
+        (
+            "kind 3 written with 256 commands, and words of 0 behind them",
+            |bytes, offset, record, answer| match answer.0 {
+                21 if record.kind == IMAGE && record.commands.len() == OLD_IMAGE_COMMANDS => {
+                    let commands = [&record.commands[..], &[0; IMAGE_COMMANDS - OLD_IMAGE_COMMANDS]].concat();
+                    OwnCaptures.write(bytes, offset, &Record { commands, ..record.clone() })
+                }
+                _ => answer,
+            },
+        ),
+        ("kind 2 written as kind 3", |bytes, offset, record, answer| {
+            if answer.0 == 0 && record.kind == OLD_IMAGE {
+                bytes[offset + 2] = IMAGE as u8;
+            }
+            answer
         }),
         ("an arrival's commands left out", |bytes, offset, record, answer| match answer.0 {
             21 if record.kind == ARRIVAL => {
@@ -270,10 +349,15 @@ fn show_writes_a_line_for_each_record_and_one_for_the_end() {
         let end = format!("{number} 0 14");
         assert_eq!(lines(&[&example[..], &refused_with(number, long)].concat()), ["0 1 14 1 291 5", end.as_str()]);
     }
-    let record = image(&mut Dice::new(1));
-    let shown = lines(&bytes_of(std::slice::from_ref(&record)).0);
-    let commands: Vec<String> = record.commands.iter().map(u32::to_string).collect();
-    assert_eq!(shown, [format!("0 2 1030 {} {}", record.channel, commands.join(" ")), "0 0 1030".to_string()]);
+    // The 512 lent words of either kind.
+    for (kind, whole) in [(OLD_IMAGE, 1030), (IMAGE, 2054)] {
+        let record = image_of(&mut Dice::new(1), kind);
+        let shown = lines(&bytes_of(std::slice::from_ref(&record)).0);
+        let mut commands: Vec<String> = record.commands.iter().map(u32::to_string).collect();
+        commands.resize(512, "0".to_string());
+        let image = format!("0 {kind} {whole} {} {}", record.channel, commands.join(" "));
+        assert_eq!(shown, [image, format!("0 0 {whole}")]);
+    }
 }
 
 #[test]

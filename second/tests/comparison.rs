@@ -249,6 +249,83 @@ fn a_word_beyond_the_need_that_is_touched_is_found() {
 }
 
 #[test]
+fn a_schedule_of_another_length_is_found() {
+    // The implied stop behind 255, and none behind 511.
+    found(|mem, before, op, channel, _, answer| {
+        if op == 138 && answer[0] == 0 {
+            let place = block(channel) + COMMAND;
+            if [before[place], mem[place]] == [255, 256] {
+                mem[place - 1..=place].fill(0);
+            }
+        }
+    });
+    found(|mem, before, op, channel, _, answer| {
+        if op == 138 && answer[0] == 0 && before[block(channel) + COMMAND] == LAST_COMMAND {
+            mem[block(channel) + STATE] = before[block(channel) + STATE];
+        }
+    });
+    // A jump to 256 or above is reserved, or goes to the eight low bits of its address.
+    found(|mem, before, op, channel, _, answer| {
+        if op == 138 && answer[..] == [0; 5] {
+            let place = block(channel) + COMMAND;
+            if mem[place] > 255 && mem[place] != before[place] + 1 {
+                mem[place - 1..=place].fill(0);
+                answer[1..3].copy_from_slice(&[5, before[place]]);
+            }
+        }
+    });
+    found(|mem, before, op, channel, _, answer| {
+        if op == 138 && answer[..] == [0; 5] {
+            let place = block(channel) + COMMAND;
+            if mem[place] != before[place] + 1 {
+                mem[place] %= 256;
+            }
+        }
+    });
+    // Address 512 taken, read or written; address 256 of the message RAM taken.
+    found(|_, _, op, _, a, answer| {
+        if [139, 140].contains(&op) && answer[0] == 4 && a == 512 {
+            answer[0] = 0;
+        }
+    });
+    found(|_, _, op, _, a, answer| {
+        if [141, 142].contains(&op) && answer[0] == 4 && (256..512).contains(&a) {
+            answer[0] = 0;
+        }
+    });
+}
+
+#[test]
+fn a_layout_number_not_tested_or_not_kept_is_found() {
+    found(|mem, before, op, channel, a, answer| {
+        if answer[0] == 2 && mem[LAYOUT] != LAYOUT_NUMBER {
+            mem[LAYOUT] = LAYOUT_NUMBER;
+            *answer = words::perform(mem, op, channel, a, 0);
+            mem[LAYOUT] = before[LAYOUT];
+        }
+    });
+    found(|mem, _, op, _, _, answer| {
+        if op == 2 && answer[0] == 0 {
+            mem[LAYOUT] = 0;
+        }
+    });
+    // Power-up leaves what it finds.
+    found(|mem, before, op, _, _, answer| {
+        if op == 1 && answer[0] == 0 {
+            mem[LAYOUT] = before[LAYOUT];
+        }
+    });
+    // Only the next one above is known to be wrong.
+    found(|mem, before, op, channel, a, answer| {
+        if answer[0] == 2 && mem[LAYOUT] < LAYOUT_NUMBER {
+            mem[LAYOUT] = LAYOUT_NUMBER;
+            *answer = words::perform(mem, op, channel, a, 0);
+            mem[LAYOUT] = before[LAYOUT];
+        }
+    });
+}
+
+#[test]
 fn a_position_moved_by_a_clear_is_found_between_engines_on_words() {
     let slip = |mem: &mut [u32], before: &[u32], op: u32, channel: u32, _: u32, answer: &mut Vec<u32>| {
         if op == 145 && answer[0] == 0 && before[block(channel) + RECEIVE_LEVEL] > 0 {
@@ -317,7 +394,7 @@ fn a_list_made_by_hand() {
         Event::Call(item(1, 1)),
         Event::Overwrite { word: COUNT, value: 13 },
         Event::Call(item(5, 0)),
-        Event::Lend { words: 15 },
+        Event::Lend { words: MODULE_WORDS - 1 },
         Event::Call(item(5, 0)),
     ];
     let list = List { seed: 0, memory: vec![0; need(1)], events };

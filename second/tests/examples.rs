@@ -122,7 +122,9 @@ fn p11_commands() {
     assert_eq!(bench.done(STEP, 0, 0), [2, 0x55AA, 0, 0]);
     assert_eq!(bench.done(STEP, 0, 0), [5, 1, 0, 0]);
     assert_eq!(bench.mem[block(1) + STATE], 0);
-    assert_eq!(scheduled(&[0x6100]).done(STEP, 0, 0), [5, 0, 0, 0]);
+    let mut bench = scheduled(&[0x6100]);
+    assert_eq!(bench.done(STEP, 0, 0), [0; 4]);
+    assert_eq!(bench.mem[block(1) + STATE..][..2], [1, 256], "0x6100 is a jump to 256");
 }
 
 #[test]
@@ -280,8 +282,8 @@ fn immediate_mode_sends_unless_paused() {
 
 #[test]
 fn schedule_pause_interrupt_jump_and_stop() {
-    let mut bench = scheduled(&[0x4000, 0x5000, 0x60FF]);
-    bench.done(SCHEDULE_WRITE, 255, 0x4000);
+    let mut bench = scheduled(&[0x4000, 0x5000, 0x61FF]);
+    bench.done(SCHEDULE_WRITE, 511, 0x4000);
     assert_eq!(bench.done(STEP, 0, 0), [0; 4]);
     assert_eq!(bench.mem[block(1) + STATE..][..2], [2, 1]);
     assert_eq!(bench.done(STEP, 0, 0), [0; 4]);
@@ -290,11 +292,11 @@ fn schedule_pause_interrupt_jump_and_stop() {
     bench.done(STEP, 0, 0);
     assert_eq!(bench.latch() & 32, 32);
     bench.done(STEP, 0, 0);
-    assert_eq!(bench.mem[block(1) + STATE..][..2], [1, 255]);
+    assert_eq!(bench.mem[block(1) + STATE..][..2], [1, 511]);
     bench.done(STEP, 0, 0);
-    assert_eq!(bench.mem[block(1) + STATE..][..2], [0, 0], "a pause at 255 too");
-    bench.done(SCHEDULE_WRITE, 255, 0x6003);
-    bench.done(SCHEDULE_WRITE, 0, 0x60FF);
+    assert_eq!(bench.mem[block(1) + STATE..][..2], [0, 0], "a pause at 511 too");
+    bench.done(SCHEDULE_WRITE, 511, 0x6003);
+    bench.done(SCHEDULE_WRITE, 0, 0x61FF);
     bench.done(TRIGGER, 0, 0);
     bench.done(STEP, 0, 0);
     bench.done(STEP, 0, 0);
@@ -382,8 +384,11 @@ fn module_reset_keeps_what_the_description_keeps() {
     bench.done(ENABLE_WRITE, 127, 0);
     bench.done(LEVEL_WRITE, 127, 0);
     bench.done(MODULE_RESET, 0, 0);
-    assert_eq!(bench.mem[..16], [1, 0, 0, 5, 0, 0, 0, 0, 0, 0, 0, 0, 0, 0, 0, 0]);
-    assert_eq!(bench.mem[16..16 + 24], [0, 0, 1, 0, 0, 0, 0, 0, 255, 128, 32, 4, 0, 0, 0, 0, 0, 0, 0, 0, 0, 0, 0, 7]);
+    assert_eq!(bench.mem[..MODULE_WORDS], [1, 0, 0, 5, 0, 0, 0, 0, 0, 0, 0, 0, 0, 0, 0, 0, 2]);
+    assert_eq!(
+        bench.mem[block(1)..][..24],
+        [0, 0, 1, 0, 0, 0, 0, 0, 255, 128, 32, 4, 0, 0, 0, 0, 0, 0, 0, 0, 0, 0, 0, 7]
+    );
     assert_eq!(bench.counts(), [1, 0, 1, 0, 1, 0, 1]);
     assert_eq!(bench.done(MATCH_READ, 1023, 0), [1]);
     assert_eq!(bench.done(MESSAGE_READ, 3, 0), [33]);
@@ -393,5 +398,5 @@ fn module_reset_keeps_what_the_description_keeps() {
     bench.done(POWER_UP, 1, 0);
     assert_eq!(bench.counts(), [0; 7]);
     assert_eq!(bench.done(MATCH_READ, 1023, 0), [0]);
-    assert_eq!(bench.mem[40..].iter().filter(|&&word| word != 0).count(), 0);
+    assert_eq!(bench.mem[block(1) + 24..].iter().filter(|&&word| word != 0).count(), 0);
 }

@@ -38,7 +38,7 @@ fn behind_a_word(between: fn(&mut Bench)) -> Vec<u32> {
     assert_eq!(bench.done(STEP, 0, 0), WORD);
     between(&mut bench);
     // The next command of an idle or paused transmitter, or of a running one, is the message.
-    for address in 0..256 {
+    for address in 0..=LAST_COMMAND {
         bench.done(SCHEDULE_WRITE, address, 0x1002);
     }
     bench.done(TRIGGER, 0, 0);
@@ -64,6 +64,11 @@ fn the_word_behind_the_null_has_its_parity() {
 
 #[test]
 fn also_across_jump_interrupt_and_pause_commands() {
+    let mut bench = running(&[0x1000, 0x6100]);
+    bench.done(SCHEDULE_WRITE, 256, 0x1002);
+    assert_eq!(bench.done(STEP, 0, 0), WORD);
+    assert_eq!(bench.done(STEP, 0, 0), QUIET);
+    assert_eq!(bench.done(STEP, 0, 0), NULL_AND_WORD);
     let mut bench = running(&[0x1000, 0x5000, 0x4000, 0x6006, 0, 0, 0x1002]);
     assert_eq!(bench.done(STEP, 0, 0), WORD);
     assert_eq!(bench.done(STEP, 0, 0), QUIET);
@@ -77,8 +82,8 @@ fn also_across_jump_interrupt_and_pause_commands() {
 #[test]
 fn a_stop_keeps_it_in_mind() {
     assert_eq!(behind_a_word(|bench| drop(bench.done(STOP, 0, 0))), NULL_AND_WORD);
-    // The stop command, a reserved code, a jump to 256, and the end of the RAM.
-    for command in [0x0000, 0x7000, 0xFFFF, 0x6100] {
+    // The stop command, a reserved code, and the end of the RAM.
+    for command in [0x0000, 0x7000, 0xFFFF] {
         let mut bench = running(&[0x1000, command]);
         assert_eq!(bench.done(STEP, 0, 0), WORD);
         bench.done(STEP, 0, 0);
@@ -86,8 +91,8 @@ fn a_stop_keeps_it_in_mind() {
         bench.done(TRIGGER, 0, 0);
         assert_eq!(bench.done(STEP, 0, 0), NULL_AND_WORD);
     }
-    let mut bench = running(&[0x60FF]);
-    bench.done(SCHEDULE_WRITE, 255, 0x1000);
+    let mut bench = running(&[0x61FF]);
+    bench.done(SCHEDULE_WRITE, LAST_COMMAND, 0x1000);
     bench.done(STEP, 0, 0);
     assert_eq!(bench.done(STEP, 0, 0), WORD);
     assert_eq!(bench.mem[block(1) + STATE..][..2], [0, 0]);
@@ -248,7 +253,7 @@ const RULES: &[Rule] = &[
     ("form 6", |s| s.form(6)),
     ("form 6, D31 changed by the parity", |s| s.form(6) && s.before.stored != s.answer[3]),
     ("form 6, the word as it is", |s| s.form(6) && s.before.stored == s.answer[3]),
-    ("form 6 at command 255", |s| s.form(6) && s.last()),
+    ("form 6 at command 511", |s| s.form(6) && s.last()),
     ("form 6 while an async word waits", |s| s.form(6) && s.waits()),
     ("message with no mark", |s| s.runs(1) && s.is(WORD_MARK, 0)),
     // What clears the mark.
@@ -263,7 +268,7 @@ const RULES: &[Rule] = &[
     ("change to immediate mode forgets it", |s| s.marked() && s.changes_mode() && s.item.a == 0),
     ("change to triggered mode forgets it", |s| s.marked() && s.changes_mode() && s.item.a == 1),
     // What keeps it.
-    ("jump keeps it", |s| s.marked() && s.runs(6) && s.target() < 256),
+    ("jump keeps it", |s| s.marked() && s.runs(6)),
     ("interrupt keeps it", |s| s.marked() && s.runs(5)),
     ("pause command keeps it", |s| s.marked() && s.runs(4)),
     ("stop command keeps it", |s| s.marked() && s.runs(0)),

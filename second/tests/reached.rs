@@ -4,6 +4,7 @@
 mod reach;
 use reach::*;
 use second::layout::*;
+use second::lists::NINTH_BIT;
 
 /// Rules that the calls of a list reach, with nothing changed by others.
 const RULES: &[Rule] = &[
@@ -79,18 +80,27 @@ const RULES: &[Rule] = &[
     ("command: message", |s| s.runs(1)),
     ("command: pause", |s| s.runs(4)),
     ("command: interrupt", |s| s.runs(5)),
-    ("command: jump", |s| s.runs(6) && s.target() < 256),
-    ("command: jump to 256 or above", |s| s.runs(6) && s.target() > 255),
+    ("command: jump below 256", |s| s.runs(6) && s.target() < NINTH_BIT),
+    ("command: jump to 256", |s| s.runs(6) && s.target() == NINTH_BIT && s.goes_to(1, NINTH_BIT)),
+    ("command: jump to 257 to 510", |s| s.runs(6) && (NINTH_BIT + 1..LAST_COMMAND).contains(&s.target())),
+    ("command: jump to 511", |s| s.runs(6) && s.target() == LAST_COMMAND && s.goes_to(1, LAST_COMMAND)),
+    ("command: jump with bits 11 to 9 set", |s| s.runs(6) && s.before.command & 0xE00 != 0),
     ("command: reserved code", |s| s.runs_reserved()),
-    ("stop at command 255", |s| s.runs(0) && s.last()),
-    ("message at command 255", |s| s.runs(1) && s.last()),
-    ("gap at command 255", |s| s.runs(2) && s.last()),
-    ("fixed gap at command 255", |s| s.runs(3) && s.last()),
-    ("pause at command 255", |s| s.runs(4) && s.last()),
-    ("interrupt at command 255", |s| s.runs(5) && s.last()),
-    ("jump at command 255", |s| s.runs(6) && s.target() < 256 && s.last()),
-    ("jump to 256 or above at command 255", |s| s.runs(6) && s.target() > 255 && s.last()),
-    ("reserved code at command 255", |s| s.runs_reserved() && s.last()),
+    ("from command 255 to 256", |s| s.step(2, 1) && s.before_ninth_bit() && !s.runs(6) && s.goes_to(1, NINTH_BIT)),
+    ("pause at command 255, waiting at 256", |s| s.runs(4) && s.before_ninth_bit() && s.goes_to(2, NINTH_BIT)),
+    ("a command of 256 to 510", |s| s.step(2, 1) && (NINTH_BIT..LAST_COMMAND).contains(&s.before.ch[COMMAND])),
+    ("a word, gap or interrupt past command 511", |s| {
+        (s.runs(1) || s.runs(2) || s.runs(3) || s.runs(5)) && s.last() && s.goes_to(0, 0)
+    }),
+    ("stop at command 511", |s| s.runs(0) && s.last()),
+    ("message at command 511", |s| s.runs(1) && s.last()),
+    ("gap at command 511", |s| s.runs(2) && s.last()),
+    ("fixed gap at command 511", |s| s.runs(3) && s.last()),
+    ("pause at command 511", |s| s.runs(4) && s.last() && s.goes_to(0, 0)),
+    ("interrupt at command 511", |s| s.runs(5) && s.last()),
+    ("jump below 256 at command 511", |s| s.runs(6) && s.target() < NINTH_BIT && s.last()),
+    ("jump to 256 or above at command 511", |s| s.runs(6) && s.target() >= NINTH_BIT && s.last()),
+    ("reserved code at command 511", |s| s.runs_reserved() && s.last()),
     ("gap below 4", |s| s.gap(2, 0, 3) || s.gap(3, 0, 3)),
     ("gap above 1,048,575", |s| s.gap(2, 1_048_576, u32::MAX) || s.gap(3, 1_048_576, u32::MAX)),
     ("gap of 36 to 39, async waits", |s| s.gap(2, 36, 39) && s.waits()),
@@ -139,6 +149,12 @@ const BY_OTHERS: &[Rule] = &[
     ("resolution outside its range: 2", |s| s.number() == 2 && s.before.part[RESOLUTION] > 3),
     ("threshold outside its range: 2", |s| s.number() == 2 && s.threshold().wrapping_sub(1) > 65_534),
     ("a counter outside its range: 2", |s| s.number() == 2 && s.above(65_536) > 0),
+    ("layout number 0: 2", |s| s.number() == 2 && s.only_layout(0)),
+    ("layout number one below: 2", |s| s.number() == 2 && s.only_layout(LAYOUT_NUMBER - 1)),
+    ("layout number one above: 2", |s| s.number() == 2 && s.only_layout(LAYOUT_NUMBER + 1)),
+    ("another layout number, module-wide call: 2", |s| s.number() == 2 && s.item.op < 32 && s.only_layout_is_wrong()),
+    ("another layout number, call on a channel: 2", |s| s.number() == 2 && s.item.op >= 32 && s.only_layout_is_wrong()),
+    ("power-up over another layout number", |s| s.done(1) && s.before.part[LAYOUT] != LAYOUT_NUMBER),
     ("failing sample at 65,536", |s| s.sample(1) && s.counter() == 65_536),
     ("failing sample at 65,535", |s| s.sample(1) && s.counter() == 65_535),
     ("failing sample at 65,534", |s| s.sample(1) && s.counter() == 65_534),
@@ -150,6 +166,10 @@ const BY_OTHERS: &[Rule] = &[
     ("the ring's last slot sent", |s| s.form(1) && s.is(TRANSMIT_POSITION, 254)),
 ];
 
+/// Addresses on both sides of the ninth bit, and at the RAM's end.
+const EDGE_COMMANDS: [u32; 4] = [0, NINTH_BIT - 1, NINTH_BIT, LAST_COMMAND];
+const EDGE_MESSAGES: [u32; 2] = [0, MESSAGES as u32 - 1];
+
 const NUMBERED: &[NumberedRule] = &[
     ("setting, a value one beside its range: 4", &[0, 1, 2, 3, 4, 5, 6, 7, 8, 9, 10, 11], |s, setting| {
         s.refused(32 + setting, 4) && s.beside()
@@ -159,12 +179,19 @@ const NUMBERED: &[NumberedRule] = &[
         &[130, 131, 132, 139, 140, 141, 142, 143, 145, 147, 148, 150],
         |s, op| s.refused(op, 4) && s.beside(),
     ),
+    ("schedule RAM written at", &EDGE_COMMANDS, |s, address| s.done(139) && s.item.a == address),
+    ("schedule RAM read at", &EDGE_COMMANDS, |s, address| s.done(140) && s.item.a == address),
+    ("message RAM written at", &EDGE_MESSAGES, |s, address| s.done(141) && s.item.a == address),
+    ("message RAM read at", &EDGE_MESSAGES, |s, address| s.done(142) && s.item.a == address),
     ("latch bit set by edge", &[0, 1, 2, 3, 4, 5, 6], |s, bit| s.latches(bit) && !s.by_level(bit)),
     ("latch bit set by level as the condition begins", &[0, 1, 2, 3, 4, 5, 6], |s, bit| {
         s.latches(bit) && s.by_level(bit) && !s.stays(bit)
     }),
     ("latch bit set by level as the condition stays", &[0, 1, 2, 3, 6], |s, bit| {
         s.latches(bit) && s.by_level(bit) && s.stays(bit)
+    }),
+    ("op, an address of the schedule RAM and not of the message RAM: 4", &[141, 142], |s, op| {
+        s.refused(op, 4) && (MESSAGES..COMMANDS).contains(&(s.item.a as usize))
     }),
     ("latch bit cleared while the condition stays, edge", &[0, 1, 2, 3, 6], |s, bit| {
         s.done(147) && s.before.ch[LATCH] & !s.after.ch[LATCH] & 1 << bit != 0 && s.stays(bit)

@@ -25,7 +25,7 @@ fn an_item_that_is_no_call_is_42_alone() {
 fn row_1_short() {
     for op in ops() {
         Bench::on(vec![]).refused(1, op, 1, 0, 0);
-        Bench::on(vec![1; 15]).refused(1, op, 1, 0, 0);
+        Bench::on(vec![1; MODULE_WORDS - 1]).refused(1, op, 1, 0, 0);
         for count in [1, 2, 12] {
             let mut mem = vec![0; need(count) - 1];
             mem[COUNT] = count;
@@ -49,7 +49,8 @@ fn row_2_unsound_module_part() {
     for (word, value) in
         [(COUNT, 0), (COUNT, 13), (COUNT, u32::MAX), (RESOLUTION, 4), (THRESHOLD, 0), (THRESHOLD, 65_536)]
             .into_iter()
-            .chain((COUNTERS..16).map(|word| (word, 65_537)))
+            .chain([0, 1, 3, u32::MAX].map(|number| (LAYOUT, number)))
+            .chain((COUNTERS..LAYOUT).map(|word| (word, 65_537)))
     {
         let mut bench = Bench::new(2);
         bench.overwrite(word, value);
@@ -84,7 +85,7 @@ fn row_2_unsound_channel() {
         (TRANSMIT_LEVEL, 256),
         (TRANSMIT_POSITION, 255),
         (STATE, 3),
-        (COMMAND, 256),
+        (COMMAND, 512),
         (ASYNC_MARK, 2),
         (LATCH, 128),
         (ENABLE, 128),
@@ -116,6 +117,17 @@ fn row_2_receive_level_above_size() {
     bench.overwrite(block(1) + RECEIVE_LEVEL, 2);
     bench.latch();
     bench.overwrite(block(1) + RECEIVE_LEVEL, 3);
+    bench.refused(2, STATUS_READ, 1, 0, 0);
+}
+
+#[test]
+fn row_2_command_addresses_run_to_511() {
+    let mut bench = Bench::new(1);
+    for command in [255, 256, 511] {
+        bench.overwrite(block(1) + COMMAND, command);
+        bench.latch();
+    }
+    bench.overwrite(block(1) + COMMAND, 512);
     bench.refused(2, STATUS_READ, 1, 0, 0);
 }
 
@@ -183,8 +195,8 @@ fn row_4_range() {
         (MAILBOX_READ, 1023),
         (MATCH_WRITE, 1023),
         (MATCH_READ, 1023),
-        (SCHEDULE_WRITE, 255),
-        (SCHEDULE_READ, 255),
+        (SCHEDULE_WRITE, 511),
+        (SCHEDULE_READ, 511),
         (MESSAGE_WRITE, 255),
         (MESSAGE_READ, 255),
         (SAMPLE, 1),

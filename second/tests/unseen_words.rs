@@ -84,5 +84,5 @@ fn power_up_writes_every_needed_word() {
     let mut bench = Bench::on(vec![u32::MAX; need(3)]);
     bench.done(POWER_UP, 3, 0);
     assert_eq!(bench.mem, Bench::new(3).mem);
-    assert_eq!(bench.mem.iter().filter(|&&word| word != 0).count(), 2 + 3 * 5);
+    assert_eq!(bench.mem.iter().filter(|&&word| word != 0).count(), 3 + 3 * 5);
 }

@@ -1,4 +1,4 @@
--- The schedule RAM and the message RAM (paper 01, "Transmit": "the schedule RAM, 256 words", "Message RAM is 256 words").
+-- The schedule RAM and the message RAM (paper 01, "Transmit": "Message RAM is 256 words"; paper 02 (vii): "Raise schedule RAM to 512").
 use Prim.Native.Nat.{ℕ, _+_}
 use mathlib.Core.List.{List}
 use lib.ListN.{set}

@@ -1,19 +1,20 @@
 -- What a reading does, by the commands of the record that stands at the offset.
 -- Assumes nothing.
 use Prim.Native.Nat.{ℕ, _+_, _*_, _-_, _<_, _≤_}
-use mathlib.Core.Path.{_≡_, refl, sym, _∙_}
+use mathlib.Core.Path.{_≡_, refl, sym, ap, _∙_}
 use mathlib.Core.Bool.{Bool, true, false, cond}
-use mathlib.Core.List.{List}
+use mathlib.Core.List.{List, _++_}
 use native.Mathlib.Omega.{arith}
 use borrow.Author.Tests.{eqb-true, eq-eqb, ne-eqb, lt-ltb, le-ltb}
 use lib.Dec.{eqb}
-use lib.ListN.{length}
+use lib.ListN.{length, replicate}
 use lib.Seq.{sets}
-use Rattle.capture.specs.Format.{commandsOf, lentWords, half, whole}
+use Rattle.capture.specs.Format.{commandsOf, lentWords, lentOf, half, whole}
 use Rattle.capture.specs.Read.{kindAt, bodyAt, wordsAt, nothing, foundAt, refusalAt, seenAt, readAt, lentAfter}
 use Rattle.capture.specs.declared.reading.Answer.{Answer}
-use Rattle.capture.proofs.Sizes.{image-long}
+use Rattle.capture.proofs.Sizes.{image-long, lent-all, lent-none}
 use Rattle.capture.proofs.Sound.{sound}
+use Rattle.capture.proofs.Stores.{sets-append, length-words}
 
 -- "fewer bytes left than 2": an offset past the end
 pub past : (b : List ℕ) (at : ℕ) → length b < at → seenAt b at ≡ nothing 20 at
@@ -51,17 +52,25 @@ module _ (b l : List ℕ) (at : ℕ) (seen : Answer) (count : ℕ) (is : seen �
   unfolding readAt lentAfter
   plain h =
       let z : commandsOf (seenAt b at .kind) ≡ 0 = sym has ∙ h in
-      rw (is, eq-eqb (commandsOf (seenAt b at .kind)) 0 z, z) (refl, refl)
+      rw (is, eq-eqb (commandsOf (seenAt b at .kind)) 0 z, lent-none (seenAt b at .kind) z, z) (refl, refl)
 
   pub short : (a : Answer) → a ≡ nothing 24 at → (count ≡ 0 → ⊥) → length l < lentWords → Reads b l at a l
-  unfolding readAt lentAfter commandsOf
+  unfolding readAt lentAfter commandsOf lentOf
   short a e h n =
       rw (e, ne-eqb (commandsOf (seenAt b at .kind)) 0 (λ z. h (has ∙ z)), lt-ltb (length l) lentWords n) (refl, refl)
 
-  pub image : (m : List ℕ) → m ≡ sets l 0 (wordsAt b (bodyAt at) count) → (count ≡ 0 → ⊥) → lentWords ≤ length l → Reads b l at seen m
+  -- the commands, and stops behind them, are what the record fills
+  pub image : (m k : List ℕ) → m ≡ sets l 0 (wordsAt b (bodyAt at) count) → k ≡ sets m count (replicate (lentWords - count) 0) → (count ≡ 0 → ⊥)
+      → lentWords ≤ length l → Reads b l at seen k
   unfolding readAt lentAfter
-  image m e h n =
-      rw (e, is, has, ne-eqb (commandsOf (seenAt b at .kind)) 0 (λ z. h (has ∙ z)), le-ltb (length l) lentWords n) (refl, refl)
+  image m k e f h n =
+      let some : commandsOf (seenAt b at .kind) ≡ 0 → ⊥ = λ z. h (has ∙ z) in
+      let behind : count ≡ 0 + length (wordsAt b (bodyAt at) count) = rw (length-words b (bodyAt at) count) (omega arith) in
+      let filled : k ≡ sets l 0 (wordsAt b (bodyAt at) count ++ replicate (lentWords - count) 0) =
+      f ∙ ap (λ (t : List ℕ). sets t count (replicate (lentWords - count) 0)) e
+      ∙ ap (λ (i : ℕ). sets (sets l 0 (wordsAt b (bodyAt at) count)) i (replicate (lentWords - count) 0)) behind
+      ∙ sym (sets-append l 0 (wordsAt b (bodyAt at) count) (replicate (lentWords - count) 0)) in
+      rw (filled, is, has, ne-eqb (commandsOf (seenAt b at .kind)) 0 some, le-ltb (length l) lentWords n, lent-all (seenAt b at .kind) some) (refl, refl)
 
   pub fits : (count ≡ 0 → ⊥) → bodyAt at + whole * count ≤ length b
   fits h = rw has (inside b at (λ z. h (has ∙ z)))

@@ -1,4 +1,5 @@
 pub mod Images
+pub mod Old
 pub mod Parts
 pub mod Put
 pub mod Sizes

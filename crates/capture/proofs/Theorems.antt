@@ -11,21 +11,20 @@ use lib.ListN.{length, take, drop, length-append, length-drop, take-append-drop}
 use lib.Seq.{sets, sets-eq, length-take-le, length-sets, drop-length, drop-drop}
 use Rattle.little_endian.specs.LittleEndian.{halfAt, wordAt, two, four}
 use Rattle.capture.specs.Format.{Record, made, arrival, commandsOf, lentWords, known, lengthOf, half, whole, fours, bodyOf, bytesOf}
-use Rattle.capture.specs.Read.{lengthAt, kindAt, channelAt, bodyAt, wordsAt, commandsAt, cutOf, kindRefusal, channelRefusal, refusalAt, nothing, foundAt, seenAt, readAt, lentAfter}
+use Rattle.capture.specs.Read.{lengthAt, kindAt, channelAt, bodyAt, wordsAt, commandsAt, filling, cutOf, kindRefusal, channelRefusal, refusalAt, nothing, foundAt, seenAt, readAt, lentAfter}
 use Rattle.capture.specs.Captures.{Below, Valid, AllValid, Reading, captureOf, recordOf, ended, before, readFrom, readAll, writeFrom}
 use Rattle.capture.specs.Write.{countRefusal, roomRefusal, writeRefusal, refusalOf, written, bytesAfter}
 use Rattle.capture.specs.Laws.{ReadsWhatWasWritten, WritesWhatWasRead, WritesOneAfterAnother, MovesOn, Stays, Ends, Example}
 use Rattle.capture.specs.declared.reading.Answer.{Answer}
-use Rattle.capture.proofs.Sizes.{few}
 use Rattle.capture.proofs.Sound.{Sound, sound}
 use Rattle.capture.proofs.Parts.{below-at, Has, has-left, has-right, part, part-add, two-back, four-back, fours-back}
 use Rattle.capture.proofs.Stores.{sets-append, length-words}
-use Rattle.capture.proofs.Told.{known-is, length-bytes, readable, taken, reads, record-is}
+use Rattle.capture.proofs.Told.{known-is, length-bytes, readable, commands-taken, reads, record-is}
 
 -- the lent words are as many as before
 pub same-lent : (b : List ℕ) (at : ℕ) (lent : List ℕ) → length (lentAfter b at lent) ≡ length lent
 unfolding lentAfter
-same-lent b at lent = length-sets lent 0 (commandsAt b at (readAt b at (length lent) .kind))
+same-lent b at lent = length-sets lent 0 (filling b at (readAt b at (length lent) .kind))
 
 -- ---- reading what was written
 
@@ -189,8 +188,7 @@ lent-is : (b : List ℕ) (at : ℕ) (lent : List ℕ) → lentWords ≤ length l
     → take (commandsOf (kindAt b at)) (lentAfter b at lent) ≡ commandsAt b at (kindAt b at)
 unfolding lentAfter foundAt
 lent-is b at lent m e =
-    rw e
-    (taken lent (commandsAt b at (kindAt b at)) (commandsOf (kindAt b at)) (length-words b (bodyAt at) (commandsOf (kindAt b at))) (omega (arith, few (kindAt b at))))
+    rw e (commands-taken lent (commandsAt b at (kindAt b at)) (kindAt b at) (length-words b (bodyAt at) (commandsOf (kindAt b at))) m)
 
 good-back : (n : ℕ) (b : List ℕ) (at : ℕ) (lent : List ℕ) → Below 256 b → lentWords ≤ length lent → length b - at < suc n → Sound b at
     → readAt b at (length lent) ≡ foundAt b at
@@ -334,4 +332,4 @@ writes-what-was-read b lent out f m long z =
 
 pub example : Example
 unfolding Example bytesOf bodyOf two four readAt seenAt refusalAt cutOf kindRefusal channelRefusal foundAt halfAt wordAt known lengthOf commandsOf
-example = (refl, refl, refl, refl)
+example = (refl, refl, refl, refl, refl)

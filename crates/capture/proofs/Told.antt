@@ -3,30 +3,32 @@
 use Prim.Native.Nat.{ℕ, _+_, _-_, _<_, _≤_, _^_}
 use mathlib.Core.Path.{_≡_, refl, ap, _∙_}
 use mathlib.Core.Bool.{Bool, true, false, cond}
-use mathlib.Core.List.{List, [], _∷_, _++_}
+use mathlib.Core.List.{List, [], _∷_, _++_, append-assoc}
 use native.Mathlib.Omega.{arith}
 use borrow.Author.Tests.{eqb-true, eqb-false, eq-eqb, ne-eqb, ltb-true, le-ltb}
 use lib.Dec.{eqb, ltb}
-use lib.ListN.{length, take, drop, length-append}
+use lib.ListN.{length, take, drop, replicate, length-append, length-replicate}
 use lib.Seq.{sets, sets-eq, take-at}
 use Rattle.little_endian.specs.LittleEndian.{wordAt, two, four}
-use Rattle.capture.specs.Format.{Record, arrival, image, imageCommands, commandsOf, lentWords, known, lengthOf, half, whole, fours, bodyOf, bytesOf}
+use Rattle.capture.specs.Format.{Record, arrival, oldImage, oldImageCommands, image, imageCommands, commandsOf, lentWords, lentOf, known, lengthOf, half, whole, fours, bodyOf, bytesOf}
 use Rattle.capture.specs.Read.{lengthAt, kindAt, channelAt, bodyAt, commandsAt, cutOf, kindRefusal, channelRefusal, refusalAt, foundAt, seenAt, readAt, lentAfter}
 use Rattle.capture.specs.Captures.{Valid, recordOf}
 use Rattle.capture.specs.declared.reading.Answer.{Answer}
-use Rattle.capture.proofs.Sizes.{few, covers, no-commands, not-long}
+use Rattle.capture.proofs.Sizes.{few, few-lent, covers, no-commands, not-long}
 use Rattle.capture.proofs.Put.{length-two, length-four, length-body}
 use Rattle.capture.proofs.Parts.{Has, has-left, has-right, has-room, half-is, word-is, words-are}
 
 -- a known kind has a number of 16 bits that is not 0
 pub known-is : (kind : ℕ) → known kind ≡ true → (1 ≤ kind) × (kind < 2 ^ 16)
 unfolding known commandsOf
-known-is kind = of (eqb kind arrival) refl (eqb kind image) refl
+known-is kind = of (eqb kind arrival) refl (eqb kind oldImage) refl (eqb kind image) refl
   where
-    of : (t : Bool) → eqb kind arrival ≡ t → (s : Bool) → eqb kind image ≡ s → cond t true (ltb 0 (cond s imageCommands 0)) ≡ true → (1 ≤ kind) × (kind < 2 ^ 16)
-    of true e s f h = let k = eqb-true kind arrival e in (omega arith, omega arith)
-    of false e true f h = let k = eqb-true kind image f in (omega arith, omega arith)
-    of false e false f h = absurd (omega (arith, ltb-true 0 0 h))
+    of : (t : Bool) → eqb kind arrival ≡ t → (s : Bool) → eqb kind oldImage ≡ s → (r : Bool) → eqb kind image ≡ r
+        → cond t true (ltb 0 (cond s oldImageCommands (cond r imageCommands 0))) ≡ true → (1 ≤ kind) × (kind < 2 ^ 16)
+    of true e s f r g h = let k = eqb-true kind arrival e in (omega arith, omega arith)
+    of false e true f r g h = let k = eqb-true kind oldImage f in (omega arith, omega arith)
+    of false e false f true g h = let k = eqb-true kind image g in (omega arith, omega arith)
+    of false e false f false g h = absurd (omega (arith, ltb-true 0 0 h))
 
 arrival-length : (kind channel word stamp : ℕ) → kind ≡ arrival → length (two kind ++ (two channel ++ (four word ++ four stamp))) ≡ lengthOf kind
 unfolding lengthOf two four
@@ -61,11 +63,18 @@ readable b at n m = rw (le-ltb n lentWords m) (of (eqb (commandsOf (seenAt b at 
     of true = refl
     of false = refl
 
--- the first of the lent words are those that were put there
-pub taken : (l vs : List ℕ) (n : ℕ) → length vs ≡ n → n ≤ length l → take n (sets l 0 vs) ≡ vs
-taken l vs n e h =
-    let f : 0 + length vs ≤ length l = omega arith in
-    ap (λ x. take n x) (sets-eq vs l 0 f) ∙ take-at vs (drop (0 + length vs) l) n e
+-- the first of the lent words are the commands that were put there, whatever was put behind them
+taken : (l vs ws : List ℕ) (n : ℕ) → length vs ≡ n → n + length ws ≤ length l → take n (sets l 0 (vs ++ ws)) ≡ vs
+taken l vs ws n e h =
+    let f : 0 + length (vs ++ ws) ≤ length l = rw (length-append vs ws) (omega arith) in
+    ap (λ x. take n x) (sets-eq (vs ++ ws) l 0 f ∙ append-assoc vs ws (drop (0 + length (vs ++ ws)) l)) ∙ take-at vs (ws ++ drop (0 + length (vs ++ ws)) l) n e
+
+pub commands-taken : (l vs : List ℕ) (kind : ℕ) → length vs ≡ commandsOf kind → lentWords ≤ length l
+    → take (commandsOf kind) (sets l 0 (vs ++ replicate (lentOf kind - commandsOf kind) 0)) ≡ vs
+commands-taken l vs kind e h =
+    let f = few kind in
+    let g = few-lent kind in
+    taken l vs (replicate (lentOf kind - commandsOf kind) 0) (commandsOf kind) e (rw (length-replicate {A = ℕ} (lentOf kind - commandsOf kind) 0) (omega arith))
 
 -- what the reading of a valid record answers
 abbrev pub told : ℕ → Record → Answer
@@ -181,4 +190,4 @@ module _ (b : List ℕ) (at : ℕ) (r : Record) (v : Valid r) (h : Has b at (byt
     pub record-is : recordOf (readAt b at (length lent)) (lentAfter b at lent) ≡ r
     unfolding lentAfter
     record-is =
-        rw (reads, commands, taken lent (r .commands) (commandsOf (r .kind)) (v .counted) (omega (arith, few (r .kind)))) refl
+        rw (reads, commands, commands-taken lent (r .commands) (r .kind) (v .counted) m) refl

@@ -21,21 +21,31 @@ made kind channel word stamp commands = record { kind = kind; channel = channel;
 abbrev pub arrival : ℕ
 arrival = 1
 
--- "Kind 2 is a schedule image"
-abbrev pub image : ℕ
-image = 2
+-- "Kind 2 is a schedule image: .. 256 commands": an image of the time before (vii)
+abbrev pub oldImage : ℕ
+oldImage = 2
 
--- "256 commands"
+abbrev pub oldImageCommands : ℕ
+oldImageCommands = 256
+
+-- paper 02 (vii): "New images are kind 3 with 512 commands"
+abbrev pub image : ℕ
+image = 3
+
 abbrev pub imageCommands : ℕ
-imageCommands = 256
+imageCommands = 512
 
 -- how many commands a kind has
 unfoldable pub commandsOf : ℕ → ℕ
-commandsOf kind = cond (eqb kind image) imageCommands 0
+commandsOf kind = cond (eqb kind oldImage) oldImageCommands (cond (eqb kind image) imageCommands 0)
 
--- the lent words that reading an image needs
+-- the lent words that reading an image, old or new, needs and fills
 abbrev pub lentWords : ℕ
 lentWords = imageCommands
+
+-- the words that reading a kind fills
+unfoldable pub lentOf : ℕ → ℕ
+lentOf kind = cond (eqb (commandsOf kind) 0) 0 lentWords
 
 unfoldable pub known : ℕ → Bool
 unfolding commandsOf
@@ -58,7 +68,7 @@ abbrev pub fours : List ℕ → List ℕ
 fours [] = []
 fours (x ∷ l) = four x ++ fours l
 
--- "channel (2), word (4), stamp (4)"; "channel (2) and 256 commands (4 each)"
+-- "channel (2), word (4), stamp (4)"; "channel (2) and 256 commands (4 each)", and of kind 3 512
 unfoldable pub bodyOf : Record → List ℕ
 bodyOf r = two (r .channel) ++ cond (eqb (r .kind) arrival) (four (r .word) ++ four (r .stamp)) (fours (r .commands))
 

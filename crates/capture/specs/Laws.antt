@@ -44,9 +44,10 @@ exampleBytes = 12 ∷ 0 ∷ 1 ∷ 0 ∷ 1 ∷ 0 ∷ 35 ∷ 1 ∷ 0 ∷ 0 ∷ 5 �
 abbrev pub exampleRecord : Record
 exampleRecord = made 1 1 291 5 []
 
--- written, and read with no lent words; and how an image begins, of channel 12 with the command 0x6100, were it one command long
+-- written, and read with no lent words; and how images of both kinds begin, of channel 12 with the command 0x6100, were they one command long
 unfoldable pub Example : Type 0
 Example = (bytesOf exampleRecord ≡ exampleBytes)
     × (readAt exampleBytes 0 0 ≡ record { number = 0; kind = 1; next = record { offset = 14 }; channel = 1; word = 291; stamp = 5 })
     × (readAt exampleBytes 14 0 ≡ nothing 0 14)
     × (bytesOf (made 2 12 0 0 (0x6100 ∷ [])) ≡ 8 ∷ 0 ∷ 2 ∷ 0 ∷ 12 ∷ 0 ∷ 0 ∷ 0x61 ∷ 0 ∷ 0 ∷ [])
+    × (bytesOf (made 3 12 0 0 (0x6100 ∷ [])) ≡ 8 ∷ 0 ∷ 3 ∷ 0 ∷ 12 ∷ 0 ∷ 0 ∷ 0x61 ∷ 0 ∷ 0 ∷ [])

@@ -1,12 +1,12 @@
 -- "Records are read one after another from lent capture bytes" (paper 02, (ii)): what stands at an offset, and what the lent words are after it is read.
 use Prim.Native.Nat.{ℕ, zero, suc, _+_, _-_}
 use mathlib.Core.Bool.{cond}
-use mathlib.Core.List.{List, [], _∷_}
+use mathlib.Core.List.{List, [], _∷_, _++_}
 use lib.Dec.{eqb, ltb}
-use lib.ListN.{length}
+use lib.ListN.{length, replicate}
 use lib.Seq.{sets}
 use Rattle.little_endian.specs.LittleEndian.{halfAt, wordAt}
-use Rattle.capture.specs.Format.{arrival, commandsOf, lentWords, known, lengthOf, half, whole}
+use Rattle.capture.specs.Format.{arrival, commandsOf, lentWords, lentOf, known, lengthOf, half, whole}
 use Rattle.capture.specs.declared.reading.Answer.{Answer}
 
 -- the fields of the record at an offset
@@ -80,7 +80,11 @@ readAt b at lent = cond (eqb (commandsOf (seenAt b at .kind)) 0) (seenAt b at) (
 abbrev pub commandsAt : List ℕ → ℕ → ℕ → List ℕ
 commandsAt b at kind = wordsAt b (bodyAt at) (commandsOf kind)
 
--- the lent words after a reading: an image's commands in the first of them, and nothing written otherwise
+-- the words that a record at an offset fills: paper 02 (vii), "reading it too fills 512 lent words, its own 256 and then stop (words of 0)"
+abbrev pub filling : List ℕ → ℕ → ℕ → List ℕ
+filling b at kind = commandsAt b at kind ++ replicate (lentOf kind - commandsOf kind) 0
+
+-- the lent words after a reading: what an image fills in the first of them, and nothing written otherwise
 unfoldable pub lentAfter : List ℕ → ℕ → List ℕ → List ℕ
 unfolding readAt
-lentAfter b at lent = sets lent 0 (commandsAt b at (readAt b at (length lent) .kind))
+lentAfter b at lent = sets lent 0 (filling b at (readAt b at (length lent) .kind))

@@ -1,16 +1,20 @@
 // The kinds of records, and the sizes of their parts.
 ghost use mathlib.Core.Path.{_≡_};
-ghost use Rattle.capture.specs.Format.{commandsOf, known, lengthOf};
+ghost use Rattle.capture.specs.Format.{commandsOf, lentOf, known, lengthOf};
 
 pub const ARRIVAL: u32 = 1;
 
+// A schedule image of the old size.
+pub const OLD_IMAGE: u32 = 2;
+
+const OLD_COMMANDS: usize = 256;
+
 // A schedule image.
-pub const IMAGE: u32 = 2;
+pub const IMAGE: u32 = 3;
 
-// The commands of an image.
-const COMMANDS: usize = 256;
+const COMMANDS: usize = 512;
 
-// The lent words that reading an image needs.
+// The lent words that reading an image, old or new, needs and fills.
 pub const LENT_WORDS: usize = COMMANDS;
 
 // The bytes of length, kind and channel.
@@ -43,7 +47,21 @@ pub const NO_ROOM: u32 = 24;
 pub fn commands_of(kind: u32) -> usize
     ensures { λ r. ⌜ r ≡ commandsOf kind ⌝ }
 {
+    if kind == OLD_IMAGE {
+        return OLD_COMMANDS;
+    }
     if kind == IMAGE { COMMANDS } else { 0 }
+}
+
+// How many lent words reading a kind fills.
+pub fn lent_of(kind: u32) -> usize
+    ensures { λ r. ⌜ r ≡ lentOf kind ⌝ }
+{
+    if commands_of(kind) == 0 {
+        0
+    } else {
+        LENT_WORDS
+    }
 }
 
 pub fn is_known(kind: u32) -> bool

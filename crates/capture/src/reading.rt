@@ -14,10 +14,10 @@ use crate::kinds::WRONG_LENGTH;
 use little_endian::half_at;
 use little_endian::word_at;
 ghost use mathlib.Core.Path.{_≡_};
-ghost use Prim.Native.Nat.{_+_, _*_, _≤_};
-ghost use lib.ListN.{length};
+ghost use Prim.Native.Nat.{_+_, _*_, _-_, _≤_};
+ghost use lib.ListN.{length, replicate};
 ghost use lib.Seq.{sets};
-ghost use Rattle.capture.specs.Format.{whole};
+ghost use Rattle.capture.specs.Format.{lentWords, whole};
 ghost use Rattle.capture.specs.Read.{kindRefusal, channelRefusal, refusalAt, nothing, foundAt, seenAt, readAt, wordsAt, lentAfter};
 
 // What stands at an offset. The kind is 0 at the end of the bytes and beside a refusal, and then the next offset is the same.
@@ -153,7 +153,20 @@ fn put_words(bytes: &[u8], from: usize, lent: &mut [u32], count: usize)
     }
 }
 
-// Reads the record at an offset: an image's commands go into the first lent words.
+// Puts words of 0, commands that stop, into the lent words from an index on, as far as an image fills them.
+fn put_stops(lent: &mut [u32], from: usize)
+    requires { ⌜ from ≤ lentWords ⌝ }
+    requires { ⌜ lentWords ≤ length (now lent) ⌝ }
+    ensures { λ r. ⌜ now (lent .exit) ≡ sets (now (lent .entry)) from (replicate (lentWords - from) 0) ⌝ }
+{
+    let mut i = from;
+    while i < LENT_WORDS {
+        lent[i] = 0;
+        i += 1;
+    }
+}
+
+// Reads the record at an offset: an image's commands go into the first lent words, and stops behind those of an old one.
 pub fn read(bytes: &[u8], cursor: Cursor, lent: &mut [u32]) -> Answer
     ensures answer { λ r. ⌜ r ≡ readAt (now (bytes .entry)) (cursor .offset) (length (now (lent .entry))) ⌝ }
     ensures after { λ r. ⌜ now (lent .exit) ≡ lentAfter (now (bytes .entry)) (cursor .offset) (now (lent .entry)) ⌝ }
@@ -168,5 +181,6 @@ pub fn read(bytes: &[u8], cursor: Cursor, lent: &mut [u32]) -> Answer
     }
     let at = cursor.offset;
     put_words(bytes, at + HALF + HALF + HALF, lent, count);
+    put_stops(lent, count);
     seen
 }

@@ -38,7 +38,7 @@ abbrev pub settingCallRefusal : SettingCall → List ℕ → ℕ
 settingCallRefusal (WriteSetting s v) b = settingRefusal (settingNumber s) v b
 settingCallRefusal (ReadSetting s) b = 0
 
--- "a RAM address 0 to 255, a match index 0 to 1023"; a mark is 0 or 1
+-- "a RAM address 0 to 255, a match index 0 to 1023", of the schedule RAM "run to 511" (paper 02 (vii)); a mark is 0 or 1
 abbrev pub memoryCallRefusal : MemoryCall → ℕ
 memoryCallRefusal (WriteMatch i v) = first (above lastIndex i 4) (above 1 v 4)
 memoryCallRefusal (ReadMatch i) = above lastIndex i 4

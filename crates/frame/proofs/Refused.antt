@@ -9,9 +9,11 @@ use borrow.Author.Tests.{ltb-false}
 use lib.Dec.{ltb}
 use lib.ListN.{length}
 use Rattle.block.specs.Layout.{word}
+use Rattle.block.specs.Refusals.{first}
 use Rattle.block.proofs.Refusals.{past, neither}
-use Rattle.frame.specs.Layout.{count, moduleWords, most, need, Framed}
-use Rattle.frame.specs.Refusals.{frameOf, frameRefusal, partSound, partRefusal, channelOf, soundTo, wideRefusal}
+use Rattle.block.proofs.Sound.{in-each, no-less, no-more}
+use Rattle.frame.specs.Layout.{count, layout, layoutNumber, moduleWords, most, need, Framed}
+use Rattle.frame.specs.Refusals.{frameOf, frameRefusal, partLeasts, partGreatests, partSound, partRefusal, channelOf, soundTo, wideRefusal}
 
 holds : (t : Bool) (k : ℕ) → cond t 0 (suc k) ≡ 0 → t ≡ true
 holds true k e = refl
@@ -36,6 +38,27 @@ unfolding partRefusal
 standing m e =
     let a = neither (frameRefusal m) _ e in
     record { frame = framed (length m) (word m count) (a .0); part = holds (partSound m) 1 (a .1) }
+
+-- "any other value there is unsound": a sound module part has the number of this layout
+pub layout-is : (m : List ℕ) → partSound m ≡ true → word m layout ≡ layoutNumber
+unfolding partLeasts partGreatests
+layout-is m e =
+    let p = in-each partLeasts partGreatests m moduleWords layout e (omega arith) in
+    omega (arith, no-less partLeasts partGreatests layout (word m layout) p, no-more partLeasts partGreatests layout (word m layout) p)
+
+-- and one with another number is refused as short or unsound
+pub other-layout : (m : List ℕ) → (word m layout ≡ layoutNumber → ⊥) → (1 ≤ partRefusal m) × (partRefusal m ≤ 2)
+unfolding partRefusal frameOf
+other-layout m n = of (partSound m) refl (ltb (length m) moduleWords) (ltb (word m count) 1) (ltb most (word m count)) (ltb (length m) (need (word m count)))
+  where
+    of : (t : Bool) → partSound m ≡ t → (a b d e : Bool)
+        → (1 ≤ first (cond a 1 (cond b 2 (cond d 2 (cond e 1 0)))) (cond t 0 2)) × (first (cond a 1 (cond b 2 (cond d 2 (cond e 1 0)))) (cond t 0 2) ≤ 2)
+    of true s a b d e = absurd (n (layout-is m s))
+    of false s true b d e = (omega arith, omega arith)
+    of false s false true d e = (omega arith, omega arith)
+    of false s false false true e = (omega arith, omega arith)
+    of false s false false false true = (omega arith, omega arith)
+    of false s false false false false = (omega arith, omega arith)
 
 -- a channel that is not refused
 pub record Addressed (p k ch : ℕ) (ok : Bool) : Type 0 where

@@ -25,8 +25,15 @@ counters = threshold + 1
 abbrev pub most : ℕ
 most = 12
 
+-- paper 02 (vii): "The module part gains a layout number": where it stands, and its value in this layout
+abbrev pub layout : ℕ
+layout = counters + most
+
+abbrev pub layoutNumber : ℕ
+layoutNumber = 2
+
 abbrev pub moduleWords : ℕ
-moduleWords = counters + most
+moduleWords = layout + 1
 
 -- the words that n channels need
 abbrev pub need : ℕ → ℕ

@@ -7,7 +7,7 @@ use lib.ListN.{length}
 use Rattle.block.specs.Layout.{word}
 use Rattle.block.specs.Ranges.{allWithin, sound}
 use Rattle.block.specs.Refusals.{first}
-use Rattle.frame.specs.Layout.{count, moduleWords, most, need, block}
+use Rattle.frame.specs.Layout.{count, layoutNumber, moduleWords, most, need, block}
 use Rattle.frame.specs.Counters.{top}
 
 -- "1 short: memory is below the module part, or below the need of its stored channel count where that is 1 to 12";
@@ -32,14 +32,16 @@ leastThreshold = 1
 abbrev pub mostThreshold : ℕ
 mostThreshold = 65535
 
--- the ranges of the module part: count, stamp (any), resolution 0 to 3, fault threshold 1 to 65,535, "fault counters 0 to 65,536"
+-- the ranges of the module part: count, stamp (any), resolution 0 to 3, fault threshold 1 to 65,535, "fault counters 0 to 65,536", and the
+-- layout number, of which paper 02 (vii) says: "any other value there is unsound"
 unfoldable pub partLeasts : List ℕ
-partLeasts = 1 ∷ 0 ∷ 0 ∷ leastThreshold ∷ 0 ∷ 0 ∷ 0 ∷ 0 ∷ 0 ∷ 0 ∷ 0 ∷ 0 ∷ 0 ∷ 0 ∷ 0 ∷ 0 ∷ []
+partLeasts = 1 ∷ 0 ∷ 0 ∷ leastThreshold ∷ 0 ∷ 0 ∷ 0 ∷ 0 ∷ 0 ∷ 0 ∷ 0 ∷ 0 ∷ 0 ∷ 0 ∷ 0 ∷ 0 ∷ layoutNumber ∷ []
 
 unfoldable pub partGreatests : List ℕ
 partGreatests =
     most ∷ 0xFFFF_FFFF ∷ mostResolution ∷ mostThreshold
-    ∷ top ∷ top ∷ top ∷ top ∷ top ∷ top ∷ top ∷ top ∷ top ∷ top ∷ top ∷ top ∷ []
+    ∷ top ∷ top ∷ top ∷ top ∷ top ∷ top ∷ top ∷ top ∷ top ∷ top ∷ top ∷ top
+    ∷ layoutNumber ∷ []
 
 -- whether every word of the module part is in its range
 abbrev pub partSound : List ℕ → Bool

@@ -15,8 +15,13 @@ pub const THRESHOLD: usize = RESOLUTION + 1;
 // The twelve fault counters, also those of unused channels.
 pub const COUNTERS: usize = THRESHOLD + 1;
 
+// The layout number, and its value in this layout.
+pub const LAYOUT: usize = COUNTERS + (MOST as usize);
+
+pub const LAYOUT_NUMBER: u32 = 2;
+
 // The words of the module part.
-pub const MODULE_WORDS: usize = COUNTERS + (MOST as usize);
+pub const MODULE_WORDS: usize = LAYOUT + 1;
 
 // The most channels that a module has.
 pub const MOST: u32 = 12;

@@ -1,6 +1,7 @@
 // When a module's memory is refused: 1 short, 2 unsound, 3 channel, or 0 for none.
 use crate::counters::TOP;
 use crate::layout::COUNT;
+use crate::layout::LAYOUT_NUMBER;
 use crate::layout::MODULE_WORDS;
 use crate::layout::MOST;
 use block::layout::WORDS;
@@ -18,7 +19,25 @@ pub const THRESHOLD_LEAST: u32 = 1;
 
 pub const THRESHOLD_GREATEST: u32 = 65535;
 
-const LEAST: [u32; MODULE_WORDS] = [1, 0, 0, THRESHOLD_LEAST, 0, 0, 0, 0, 0, 0, 0, 0, 0, 0, 0, 0];
+const LEAST: [u32; MODULE_WORDS] = [
+    1,
+    0,
+    0,
+    THRESHOLD_LEAST,
+    0,
+    0,
+    0,
+    0,
+    0,
+    0,
+    0,
+    0,
+    0,
+    0,
+    0,
+    0,
+    LAYOUT_NUMBER,
+];
 
 const GREATEST: [u32; MODULE_WORDS] = [
     MOST,
@@ -37,6 +56,7 @@ const GREATEST: [u32; MODULE_WORDS] = [
     TOP,
     TOP,
     TOP,
+    LAYOUT_NUMBER,
 ];
 
 // The refusal of memory that is too short, or whose stored count is outside 1 to 12.

@@ -31,7 +31,7 @@ pub extern "C" fn nqabelihu_capture_refusal(bytes: &[u8], offset: usize) -> u32
     capture::reading::look(bytes, Cursor { offset: offset }).number
 }
 
-// Reads the record at an offset: the result is the number, an image's commands go into the first of `commands`, and the others take the
+// Reads the record at an offset: the result is the number, an image fills the first of `commands`, and the others take the
 // record's kind, the offset behind it, its channel, and an arrival's word and stamp.
 #[no_mangle]
 pub extern "C" fn nqabelihu_capture_read(

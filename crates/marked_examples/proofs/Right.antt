@@ -9,7 +9,7 @@ use Rattle.status.specs.Status.{latchBit, latched}
 use Rattle.frame.specs.Counters.{sampled}
 use Rattle.ring.specs.Ring.{words, held}
 use Rattle.schedule.specs.Output.{values}
-use Rattle.schedule.specs.Schedule.{onward, messageStep, gapStep, jumpStep, commandStep, stepped}
+use Rattle.schedule.specs.Schedule.{onward, messageStep, gapStep, commandStep, stepped}
 use Rattle.block.specs.Mailboxes.{unlisted}
 use Rattle.receive.specs.Arrival.{filtered, listed, arrival}
 use Rattle.receive.specs.Arrived.{stored}
@@ -18,5 +18,5 @@ use Rattle.transmit.specs.Step.{scheduledOutcome}
 use Rattle.marked_examples.specs.Marked.{receiving, received, scheduling, marked, Right}
 
 pub right : Right
-unfolding Right marked sampled latchBit latched receiving received scheduling scheduledOutcome flatten ones reversed oddParity asSent errorMark clamped words held values onward messageStep gapStep jumpStep commandStep stepped filtered listed arrival unlisted stored stampOf entryOf mailed
+unfolding Right marked sampled latchBit latched receiving received scheduling scheduledOutcome flatten ones reversed oddParity asSent errorMark clamped words held values onward messageStep gapStep commandStep stepped filtered listed arrival unlisted stored stampOf entryOf mailed
 right = refl

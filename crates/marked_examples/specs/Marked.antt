@@ -43,6 +43,10 @@ scheduling command = ramWritten messageRam 5 0xA1 (ramWritten scheduleRam 9 comm
 abbrev pub sent : Outcome → List ℕ
 sent o = values (o .output) ++ (o .place .waiting ∷ [])
 
+-- the numbers of a step's output, then the address of the next command
+abbrev pub next : Outcome → List ℕ
+next o = values (o .output) ++ (o .place .address ∷ [])
+
 -- a fault counter after n failing samples, and after a good one behind three failing; condition 6 at a threshold of 5, as its bit in a mask
 abbrev pub failures : ℕ → ℕ
 failures zero = 0
@@ -88,11 +92,11 @@ marked =
     ∷ record { number = 9; gives = word (wideStored (AdvanceStamp 2) (1 ∷ 0xFFFFFFFF ∷ [])) stamp ∷ []; says = 1 ∷ [] }
     -- "receiver and match on, empty set: filtered"
     ∷ record { number = 10; gives = outcome (arrival 0xA1 (receiving 1 0 255)) ∷ []; says = 1 ∷ [] }
-    -- "command 0x1F05 is message 5; 0x7000 and 0x6100 are reserved"
+    -- "command 0x1F05 is message 5; 0x7000 .. reserved"; paper 02 (vii): "marked example 0x6100 is now a jump to 256"
     ∷ record {
       number = 11;
-      gives = flatten (map (λ (c : ℕ). values (scheduledOutcome (scheduling c) .output)) (0x1F05 ∷ 0x7000 ∷ 0x6100 ∷ []));
-      says = 2 ∷ 0xA1 ∷ 0 ∷ 0 ∷ 5 ∷ 9 ∷ 0 ∷ 0 ∷ 5 ∷ 9 ∷ 0 ∷ 0 ∷ [];
+      gives = flatten (map (λ (c : ℕ). next (scheduledOutcome (scheduling c))) (0x1F05 ∷ 0x7000 ∷ 0x6100 ∷ []));
+      says = (2 ∷ 0xA1 ∷ 0 ∷ 0 ∷ 10 ∷ []) ++ (5 ∷ 9 ∷ 0 ∷ 0 ∷ 0 ∷ []) ++ (0 ∷ 0 ∷ 0 ∷ 0 ∷ 256 ∷ []);
     }
     ∷ []
 

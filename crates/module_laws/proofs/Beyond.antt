@@ -15,14 +15,14 @@ use Rattle.block.specs.Refusals.{leaveUnless}
 use Rattle.block.proofs.Refusals.{neither}
 use Rattle.channel_calls.specs.declared.calls.ChannelCall.{ChannelCall}
 use Rattle.channel_laws.proofs.Calls.{left}
-use Rattle.frame.specs.Layout.{count, stamp, resolution, threshold, moduleWords, need, base, withBlock, Framed}
+use Rattle.frame.specs.Layout.{count, stamp, resolution, threshold, layout, moduleWords, need, base, withBlock, Framed}
 use Rattle.frame.specs.Each.{eachTo}
 use Rattle.frame.specs.Refusals.{wideRefusal}
 use Rattle.frame.proofs.Parts.{splice}
 use Rattle.frame.proofs.Refused.{wide-framed}
 use Rattle.frame.proofs.Blocks.{with-length}
 use Rattle.frame.proofs.Each.{Own, each-length}
-use Rattle.power.specs.Power.{powerRefusal, factoryPart, factoryBlocks, powered}
+use Rattle.power.specs.Power.{powerRefusal, partWith, factoryPart, factoryBlocks, powered}
 use Rattle.power.proofs.Filling.{repeated-length, factory-length}
 use Rattle.power.proofs.Laws.{power-framed, powered-length}
 use Rattle.wide.specs.Refusals.{callRefusal}
@@ -124,7 +124,7 @@ reset-stays m e =
     record {
       long = reset-length m g;
       same =
-          behind moduleWords (k * blockWords) (factoryPart k) (drop moduleWords (resetTo k m)) refl
+          behind moduleWords (k * blockWords) (partWith k (word m layout)) (drop moduleWords (resetTo k m)) refl
           ∙ drop-drop (k * blockWords) moduleWords (resetTo k m)
           ∙ each-stays reset-own m g k (omega arith) .same;
     }

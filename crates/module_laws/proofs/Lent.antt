@@ -20,13 +20,13 @@ use Rattle.channel_calls.specs.declared.calls.Answer.the-variants.{Done, Refuse
 use Rattle.channel_calls.specs.declared.calls.ChannelCall.{ChannelCall}
 use Rattle.block.specs.Kept.{keptOf, keptFirst}
 use Rattle.channel_laws.proofs.Resets.{first-holds}
-use Rattle.frame.specs.Layout.{count, stamp, resolution, threshold, moduleWords, most, need, base, block, withBlock, Framed}
+use Rattle.frame.specs.Layout.{count, stamp, resolution, threshold, layout, moduleWords, most, need, base, block, withBlock, Framed}
 use Rattle.frame.specs.Each.{eachTo}
 use Rattle.frame.specs.Refusals.{frameOf, frameRefusal, partLeasts, partGreatests, partRefusal, channelOf, wideRefusal}
 use Rattle.frame.proofs.Parts.{part-front, splice-front}
 use Rattle.frame.proofs.Blocks.{Within, channel-room}
 use Rattle.frame.proofs.Each.{Own, each-length}
-use Rattle.power.specs.Power.{powerRefusal, factoryPart, powered}
+use Rattle.power.specs.Power.{powerRefusal, partWith, powered}
 use Rattle.power.proofs.Laws.{power-framed, powered-length, powered-word, powered-block}
 use Rattle.wide.specs.Refusals.{callRefusal}
 use Rattle.wide.specs.Rule.{ruledAll}
@@ -225,10 +225,10 @@ module _ {l r : List ℕ} (f : Front l r) where
       let k : ℕ = word l count in
       let e = each-length reset-own l (f .sane .frame) k (omega arith) in
       let long : moduleWords ≤ length (resetTo k l) = omega (arith, e, f .sane .frame) in
-      append-assoc (factoryPart k) (drop moduleWords (resetTo k l)) r
-      ∙ ap (λ (t : List ℕ). factoryPart k ++ t)
+      append-assoc (partWith k (word l layout)) (drop moduleWords (resetTo k l)) r
+      ∙ ap (λ (t : List ℕ). partWith k (word l layout) ++ t)
       (sym (drop-append-le moduleWords (resetTo k l) r long) ∙ ap (drop moduleWords) (each-front reset-own l r (f .sane .frame) k (omega arith)))
-      ∙ rw (f .words count (omega arith)) refl
+      ∙ rw (f .words count (omega arith), f .words layout (omega arith)) refl
 
   pub front-reset : Alike Reset l r
   front-reset =

@@ -7,3 +7,4 @@ pub mod OnModule
 pub mod Reset
 pub mod Lent
 pub mod Beyond
+pub mod Layouts

@@ -12,8 +12,9 @@ use Rattle.block.specs.Kept.{keptOf, keptBy}
 use Rattle.channel_laws.specs.Effects.{resetEffect}
 use Rattle.channel_laws.proofs.Resets.{reset-left}
 use Rattle.frame.specs.Layout.{count, moduleWords, block}
+use Rattle.frame.proofs.Refused.{layout-is}
 use Rattle.frame.specs.Refusals.{partLeasts, partGreatests}
-use Rattle.power.specs.Power.{factoryPart}
+use Rattle.power.specs.Power.{partWith, factoryPart}
 use Rattle.reset.specs.Reset.{moduleReset}
 use Rattle.reset.proofs.Laws as laws
 use Rattle.module_laws.specs.Sane.{Sane}
@@ -22,7 +23,7 @@ use Rattle.module_laws.proofs.Power.{factory-in}
 module _ {m : List ℕ} (s : Sane m) where
   -- the module part is the factory's, with the count that was stored
   pub reset-word : (i : ℕ) → i < moduleWords → word (moduleReset m) i ≡ word (factoryPart (word m count)) i
-  reset-word i h = laws.reset-word m i h
+  reset-word i h = laws.reset-word m i h ∙ ap (λ (n : ℕ). word (partWith (word m count) n) i) (layout-is m (s .part))
 
   -- "all FIFOs cleared .., settings to factory": each channel, its cleared entries counted
   pub reset-kept : (ch : ℕ) → 1 ≤ ch → ch ≤ word m count → keptOf (block (moduleReset m) ch) ≡ keptBy counted resetEffect (keptOf (block m ch))

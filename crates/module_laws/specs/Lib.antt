@@ -1,3 +1,4 @@
 pub mod Sane
 pub mod Reduced
 pub mod Need
+pub mod Layouts

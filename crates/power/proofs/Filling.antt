@@ -2,17 +2,17 @@
 -- Assumes nothing.
 use Prim.Native.Nat.{ℕ, zero, suc, _+_, _*_, _-_, _≤_, _<_}
 use mathlib.Core.Path.{_≡_, refl, sym, ap, ap₂, _∙_}
-use mathlib.Core.List.{List, _++_, append-assoc}
+use mathlib.Core.List.{List, [], _∷_, _++_, append-assoc}
 use native.Mathlib.Numerals.{add-one}
 use native.Mathlib.Omega.{arith}
-use lib.ListN.{length, take, drop, replicate, length-append, length-replicate, replicate-append-replicate}
-use lib.Seq.{take-at, drop-at, length-take-le}
+use lib.ListN.{length, take, drop, set, replicate, length-append, length-set, length-replicate, replicate-append-replicate}
+use lib.Seq.{sets, sets-eq, take-at, drop-at, drop-cons, drop-set-lt, getD-set-same, getD-set-other, length-take-le}
 use borrow.Rule.Slice.PartMut.{putMid, postOf, post-is, mid-len, take-put, drop-put}
-use Rattle.block.specs.Layout.{settings, blockWords}
+use Rattle.block.specs.Layout.{word, settings, blockWords}
 use Rattle.block.specs.Factory.{factoryOf, nonzeroToFactory}
-use Rattle.frame.specs.Layout.{moduleWords, need, base, block, withBlock}
+use Rattle.frame.specs.Layout.{count, stamp, layout, layoutNumber, moduleWords, need, base, block, withBlock}
 use Rattle.frame.proofs.Parts.{part, splice, part-back, splice-back}
-use Rattle.power.specs.Power.{repeated, factoryPart, factoryBlocks, powered}
+use Rattle.power.specs.Power.{repeated, partWith, factoryPart, factoryBlocks, powered}
 
 pub repeated-length : (n w : ℕ) (f : List ℕ) → length f ≡ w → length (repeated n f) ≡ n * w
 unfolding repeated
@@ -27,6 +27,29 @@ factory-of n h = simp length-replicate (omega arith)
 
 pub factory-length : length (factoryOf blockWords) ≡ blockWords
 factory-length = factory-of blockWords (omega arith)
+
+-- ---- the module part
+
+-- stores into all of its words but the count and the layout number
+pub part-stored : (m : List ℕ) → moduleWords ≤ length m
+    → sets m stamp (take (layout - stamp) (drop stamp (factoryPart 0))) ≡ partWith (word m count) (word m layout) ++ drop moduleWords m
+part-stored [] h = absurd (omega arith)
+part-stored (x ∷ m) h =
+    sets-eq (take (layout - stamp) (drop stamp (factoryPart 0))) (x ∷ m) stamp (omega arith)
+    ∙ ap (λ (t : List ℕ). x ∷ (take (layout - stamp) (drop stamp (factoryPart 0)) ++ t)) (drop-cons (x ∷ m) layout 0 (omega arith))
+
+-- the count and the number of this layout stored first
+pub part-started : (m : List ℕ) (k : ℕ) → moduleWords ≤ length m
+    → partWith (word (set (set m count k) layout layoutNumber) count) (word (set (set m count k) layout layoutNumber) layout)
+    ++ drop moduleWords (set (set m count k) layout layoutNumber) ≡ factoryPart k ++ drop moduleWords m
+part-started m k h =
+    let long : layout < length (set m count k) = simp length-set (omega arith) in
+    let first : word (set (set m count k) layout layoutNumber) count ≡ k =
+    getD-set-other (set m count k) layout count layoutNumber 0 (λ e. omega arith) ∙ getD-set-same m count k 0 (omega arith) in
+    let last : word (set (set m count k) layout layoutNumber) layout ≡ layoutNumber = getD-set-same (set m count k) layout layoutNumber 0 long in
+    let behind : drop moduleWords (set (set m count k) layout layoutNumber) ≡ drop moduleWords m =
+    drop-set-lt moduleWords (set m count k) layout layoutNumber (omega arith) ∙ drop-set-lt moduleWords m count k (omega arith) in
+    rw (first, last, behind) refl
 
 -- ---- zeros
 

@@ -7,7 +7,7 @@ use lib.ListN.{length, drop}
 use Rattle.block.specs.Layout.{blockWords}
 use Rattle.block.specs.Factory.{factoryOf}
 use Rattle.block.specs.Refusals.{leaveUnless}
-use Rattle.frame.specs.Layout.{most, need}
+use Rattle.frame.specs.Layout.{layoutNumber, most, need}
 
 -- "at power-up a count outside 1 to 12" is 4; 1 is "below the need of the asked count, where that is 1 to 12"
 unfoldable pub powerRefusal : ℕ → ℕ → ℕ
@@ -17,8 +17,13 @@ powerRefusal k n =
     (cond (ltb n (need k)) 1 0))
 
 -- "stamp and counters 0", the fault threshold 5 and the stamp resolution 0 of the factory, counters "beside those of unused channels (0 from power-up, tested too)"
+-- between a count and a layout number
+abbrev pub partWith : ℕ → ℕ → List ℕ
+partWith k number = k ∷ 0 ∷ 0 ∷ 5 ∷ 0 ∷ 0 ∷ 0 ∷ 0 ∷ 0 ∷ 0 ∷ 0 ∷ 0 ∷ 0 ∷ 0 ∷ 0 ∷ 0 ∷ number ∷ []
+
+-- the module part from power-up
 abbrev pub factoryPart : ℕ → List ℕ
-factoryPart k = k ∷ 0 ∷ 0 ∷ 5 ∷ 0 ∷ 0 ∷ 0 ∷ 0 ∷ 0 ∷ 0 ∷ 0 ∷ 0 ∷ 0 ∷ 0 ∷ 0 ∷ 0 ∷ []
+factoryPart k = partWith k layoutNumber
 
 -- a list n times, one after the other
 unfoldable pub repeated : ℕ → List ℕ → List ℕ

@@ -2,6 +2,8 @@
 use block::layout::WORDS;
 use frame::layout::COUNT;
 use frame::layout::COUNTERS;
+use frame::layout::LAYOUT;
+use frame::layout::LAYOUT_NUMBER;
 use frame::layout::MODULE_WORDS;
 use frame::layout::MOST;
 use frame::layout::RESOLUTION;
@@ -12,19 +14,19 @@ ghost use mathlib.Core.Path.{_≡_};
 ghost use mathlib.Core.List.{_++_};
 ghost use Prim.Native.Nat.{_≤_};
 ghost use lib.ListN.{length, take, drop, replicate};
+ghost use Rattle.block.specs.Layout.{word};
 ghost use Rattle.block.specs.Factory.{nonzeroToFactory};
-ghost use Rattle.frame.specs.Layout.{moduleWords, most, need, block, withBlock};
-ghost use Rattle.power.specs.Power.{factoryPart, factoryBlocks, powerRefusal, powerAfter};
+ghost use Rattle.frame.specs.Layout.{count, layout, moduleWords, most, need, block, withBlock};
+ghost use Rattle.power.specs.Power.{partWith, factoryPart, factoryBlocks, powerRefusal, powerAfter};
 
 // The fault threshold at power-up.
 const FACTORY_THRESHOLD: u32 = 5;
 
-// Fills the module part as power-up and module reset leave it.
-pub fn fill_part(mem: &mut [u32], count: u32)
+// Fills the words of the module part that power-up and module reset leave alike: all but the count and the layout number.
+pub fn fill_part(mem: &mut [u32])
     requires { ⌜ moduleWords ≤ length (now mem) ⌝ }
-    ensures { λ r. ⌜ now (mem .exit) ≡ factoryPart count ++ drop moduleWords (now (mem .entry)) ⌝ }
+    ensures { λ r. ⌜ now (mem .exit) ≡ partWith (word (now (mem .entry)) count) (word (now (mem .entry)) layout) ++ drop moduleWords (now (mem .entry)) ⌝ }
 {
-    mem[COUNT] = count;
     mem[STAMP] = 0;
     mem[RESOLUTION] = 0;
     mem[THRESHOLD] = FACTORY_THRESHOLD;
@@ -40,6 +42,16 @@ pub fn fill_part(mem: &mut [u32], count: u32)
     mem[COUNTERS + 9] = 0;
     mem[COUNTERS + 10] = 0;
     mem[COUNTERS + 11] = 0;
+}
+
+// Fills the module part with the count and the number of this layout.
+fn start_part(mem: &mut [u32], count: u32)
+    requires { ⌜ moduleWords ≤ length (now mem) ⌝ }
+    ensures { λ r. ⌜ now (mem .exit) ≡ factoryPart count ++ drop moduleWords (now (mem .entry)) ⌝ }
+{
+    mem[COUNT] = count;
+    mem[LAYOUT] = LAYOUT_NUMBER;
+    fill_part(mem);
 }
 
 // Fills words with zeros.
@@ -91,6 +103,6 @@ pub fn power_up(mem: &mut [u32], count: u32) -> u32
         return 1;
     }
     fill_channels(mem, count);
-    fill_part(mem, count);
+    start_part(mem, count);
     0
 }

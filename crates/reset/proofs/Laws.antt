@@ -8,10 +8,10 @@ use lib.ListN.{length, drop, length-drop, length-set, List·getD-append}
 use Rattle.block.specs.Layout.{word}
 use Rattle.block.proofs.Marks.{unlist-length}
 use Rattle.status.specs.Tests.{blockReset}
-use Rattle.frame.specs.Layout.{count, moduleWords, Framed, block}
+use Rattle.frame.specs.Layout.{count, layout, moduleWords, Framed, block}
 use Rattle.frame.proofs.Blocks.{block-length, block-behind}
 use Rattle.frame.proofs.Each.{Own, each-length, each-block}
-use Rattle.power.specs.Power.{factoryPart}
+use Rattle.power.specs.Power.{partWith}
 use Rattle.reset.specs.Reset.{resetChannel, resetTo, moduleReset}
 
 -- a channel's new block goes by its own block alone
@@ -20,10 +20,10 @@ unfolding blockReset
 reset-own = record { whole = λ m ch room. simp (length-set, unlist-length) (block-length m ch room); same = λ m m′ ch p q w e. rw e refl }
 
 module _ (m : List ℕ) where
-  -- "stamp and counters 0", threshold and resolution as from the factory, and the count as it was
-  pub reset-word : (i : ℕ) → i < moduleWords → word (moduleReset m) i ≡ word (factoryPart (word m count)) i
+  -- "stamp and counters 0", threshold and resolution as from the factory, and the count and the layout number as they were
+  pub reset-word : (i : ℕ) → i < moduleWords → word (moduleReset m) i ≡ word (partWith (word m count) (word m layout)) i
   unfolding moduleReset
-  reset-word i h = List·getD-append (factoryPart (word m count)) (drop moduleWords (resetTo (word m count) m)) 0 i h
+  reset-word i h = List·getD-append (partWith (word m count) (word m layout)) (drop moduleWords (resetTo (word m count) m)) 0 i h
 
   module _ (f : Framed (length m) (word m count)) where
     pub reset-length : length (moduleReset m) ≡ length m
@@ -39,5 +39,5 @@ module _ (m : List ℕ) where
     pub reset-block : (ch : ℕ) → 1 ≤ ch → ch ≤ word m count → block (moduleReset m) ch ≡ blockReset (block m ch)
     unfolding moduleReset
     reset-block ch l h =
-        block-behind (factoryPart (word m count)) (resetTo (word m count) m) ch refl
+        block-behind (partWith (word m count) (word m layout)) (resetTo (word m count) m) ch refl
         ∙ each-block reset-own m f (word m count) ch l h (omega arith)

@@ -5,10 +5,10 @@ use lib.ListN.{drop}
 use Rattle.block.specs.Layout.{word}
 use Rattle.block.specs.Refusals.{leaveUnless}
 use Rattle.status.specs.Tests.{blockReset}
-use Rattle.frame.specs.Layout.{count, moduleWords, block}
+use Rattle.frame.specs.Layout.{count, layout, moduleWords, block}
 use Rattle.frame.specs.Each.{eachTo}
 use Rattle.frame.specs.Refusals.{wideRefusal}
-use Rattle.power.specs.Power.{factoryPart}
+use Rattle.power.specs.Power.{partWith}
 
 -- "all FIFOs cleared, async words dropped, transmitters idle at command 0, settings to factory, .. latches and enables 0, all edge": a channel's block
 abbrev pub resetChannel : List ℕ → ℕ → List ℕ
@@ -18,9 +18,9 @@ resetChannel m ch = blockReset (block m ch)
 abbrev pub resetTo : ℕ → List ℕ → List ℕ
 resetTo n m = eachTo resetChannel n m
 
--- "settings to factory, stamp and counters 0": every channel of the stored count, and the module part but for that count
+-- "settings to factory, stamp and counters 0": every channel of the stored count, and the module part but for that count and the layout number
 unfoldable pub moduleReset : List ℕ → List ℕ
-moduleReset m = factoryPart (word m count) ++ drop moduleWords (resetTo (word m count) m)
+moduleReset m = partWith (word m count) (word m layout) ++ drop moduleWords (resetTo (word m count) m)
 
 -- "A refusal (1 to 7) changes no lent word"
 abbrev pub resetAfter : List ℕ → List ℕ

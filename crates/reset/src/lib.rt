@@ -41,8 +41,7 @@ pub fn reset(mem: &mut [u32]) -> u32
     if refusal != 0 {
         return refusal;
     }
-    let count = mem[COUNT];
     reset_channels(mem);
-    power::fill_part(mem, count);
+    power::fill_part(mem);
     0
 }

@@ -4,7 +4,7 @@ use mathlib.Core.Path.{_≡_, refl}
 use mathlib.Core.Bool.{Bool, true, false, cond}
 use Prim.Native.Nat.{ℕ, _≤_}
 use native.Mathlib.Omega.{arith}
-use borrow.Author.Tests.{leb-false, ltb-false}
+use borrow.Author.Tests.{leb-false}
 use lib.Dec.{eqb, leb, ltb}
 use Rattle.word.specs.Gap.{clamped}
 use Rattle.word.specs.Parity.{asSent}
@@ -82,11 +82,9 @@ message-holds p word =
 reserved-holds : (p : Place) → Holds p (reservedStep p)
 reserved-holds p = gives-holds refl (idle-leaves p)
 
-jump-holds : (p : Place) (to : ℕ) → Holds p (jumpStep p to)
-unfolding jumpStep
-jump-holds p to =
-    cases (Holds p) (ltb last to) _ _ (reserved-holds p)
-    (λ e. gives-holds refl (record { state = λ h. omega arith; address = λ h. ltb-false last to e; waiting = omega arith; word = refl; mark = λ h. h }))
+jump-holds : (p : Place) (to : ℕ) → to ≤ last → Holds p (jumpStep p to)
+jump-holds p to l =
+    gives-holds refl (record { state = λ h. omega arith; address = λ h. l; waiting = omega arith; word = refl; mark = λ h. h })
 
 command-holds : (p : Place) (parity command value : ℕ) → Holds p (commandStep p parity command value)
 unfolding commandStep
@@ -97,7 +95,7 @@ command-holds p parity command value =
     (is fixedGap (gives-holds refl (marked-runs p 0 (omega arith)))
     (is pause (gives-holds refl (onward-leaves p paused (omega arith)))
     (is interrupt (record { place = onward-runs; signal = omega arith; no-fifo-word = refl })
-    (is jump (jump-holds p (target command)) (reserved-holds p)))))))
+    (is jump (jump-holds p (target command) (omega arith)) (reserved-holds p)))))))
   where
     is : (k : ℕ) {a b : Outcome} → Holds p a → Holds p b → Holds p (cond (eqb (code command) k) a b)
     is k {a} {b} x y = cases (Holds p) (eqb (code command) k) a b x (λ e. y)

@@ -104,10 +104,6 @@ module _ (l : List Item) where
         (λ e. record { each = (a .ready (eqb-true (p .mark) 0 e), a .each); ready = λ z. absurd (omega (arith, onward-mark (marked p 1) running)) })
         (λ e. record { each = (since-none 0 l (omega arith), a .each); ready = λ z. absurd (omega (arith, onward-mark (marked p 1) running)) })
 
-    jump-apart : (to : ℕ) → Keeps (jumpStep p to)
-    unfolding jumpStep
-    jump-apart to = by Keeps (ltb last to) _ _ (λ e. a) (λ e. a)
-
     command-apart : (parity command value : ℕ) → Keeps (commandStep p parity command value)
     unfolding commandStep
     command-apart parity command value =
@@ -117,7 +113,7 @@ module _ (l : List Item) where
         (is fixedGap _ _ (null-apart (clamped value) _ (clamped-least value) (a .each))
         (is pause _ _ (quiet (onward-mark p paused))
         (is interrupt _ _ (quiet (onward-mark p running))
-        (is jump _ _ (jump-apart (target command)) a))))))
+        (is jump _ _ a a))))))
       where
         is : (k : ℕ) (x y : Outcome) → Keeps x → Keeps y → Keeps (cond (eqb (code command) k) x y)
         is k x y h i = by Keeps (eqb (code command) k) x y (λ e. h) (λ e. i)

@@ -15,23 +15,24 @@ paused = 2
 abbrev pub code : ℕ → ℕ
 code command = command / 4096 % 16
 
--- "Message RAM is 256 words", "schedule RAM, 256 words"
+-- "Message RAM is 256 words"
 abbrev pub messages : ℕ
 messages = 256
 
 abbrev pub lastMessage : ℕ
 lastMessage = messages - 1
 
+-- paper 02 (vii): "Raise schedule RAM to 512"
 abbrev pub commands : ℕ
-commands = 256
+commands = 512
 
 -- "message RAM at bits 7 to 0"
 abbrev pub messageAddress : ℕ → ℕ
 messageAddress command = command % messages
 
--- "to address in bits 8 to 0"
+-- "to address in bits 8 to 0": every address of the schedule RAM (paper 02 (vii), "The manual's jump has nine address bits")
 abbrev pub target : ℕ → ℕ
-target command = command % 512
+target command = command % commands
 
 -- the codes of the table: "0 stop", "1 message", "2 gap", "3 fixed gap", "4 pause", "5 interrupt", "6 jump"; "7 to 15" are reserved
 abbrev pub stop : ℕ

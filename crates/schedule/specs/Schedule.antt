@@ -16,7 +16,7 @@ use Rattle.schedule.specs.declared.Output.the-variants.{Quiet, Message, 
 abbrev pub at : Place → ℕ → ℕ → Place
 at p state address = record { state = state; address = address; waiting = p .waiting; word = p .word; mark = p .mark }
 
--- "After command 255, a pause too, it is idle at command 0 in the same step"
+-- "After command 255, a pause too, it is idle at command 0 in the same step"; paper 02 (vii): "the implied stop moves after 511"
 unfoldable pub onward : Place → ℕ → Place
 onward p state = cond (leb last (p .address)) (at p idle 0) (at p state (p .address + 1))
 
@@ -50,9 +50,9 @@ gapStep p parity g =
 abbrev pub reservedStep : Place → Outcome
 reservedStep p = gives (Reserved (p .address)) (at p idle 0)
 
--- 6 jump: "to address in bits 8 to 0"; "A jump to 256 or above acts as reserved"; after command 255 "only a jump there goes to its target"
-unfoldable pub jumpStep : Place → ℕ → Outcome
-jumpStep p to = cond (ltb last to) (reservedStep p) (gives Quiet (at p running to))
+-- 6 jump: "to address in bits 8 to 0"; paper 02 (vii): "Jumps to 256 and above become real"; after the last command "only a jump there goes to its target"
+abbrev pub jumpStep : Place → ℕ → Outcome
+jumpStep p to = gives Quiet (at p running to)
 
 -- the table of codes, row by row; "A command that sends nothing gives quiet"
 unfoldable pub commandStep : Place → ℕ → ℕ → ℕ → Outcome

@@ -36,7 +36,7 @@ pub const MESSAGES: u32 = 256;
 pub const LAST_MESSAGE: u32 = MESSAGES - 1;
 
 // The words of the schedule RAM, and the address of the last command.
-pub const COMMANDS: u32 = 256;
+pub const COMMANDS: u32 = 512;
 
 pub const LAST: u32 = COMMANDS - 1;
 
@@ -194,13 +194,10 @@ fn reserved_step(place: Place) -> Outcome
     gives(Output::Reserved(place.address), after)
 }
 
-// A jump, also from the last command; one past the last command is reserved.
+// A jump, also from the last command.
 fn jump_step(place: Place, target: u32) -> Outcome
     ensures { λ r. ⌜ r ≡ jumpStep place target ⌝ }
 {
-    if LAST < target {
-        return reserved_step(place);
-    }
     gives(Output::Quiet, at(place, RUNNING, target))
 }
 
@@ -233,7 +230,7 @@ fn command_step(place: Place, parity: u32, command: u32, value: u32) -> Outcome
         };
     }
     if code == JUMP {
-        return jump_step(place, command % 512);
+        return jump_step(place, command % COMMANDS);
     }
     reserved_step(place)
 }

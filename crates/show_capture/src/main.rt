@@ -1,6 +1,6 @@
 // Shows a capture. Standard input has its bytes, of any length. One line is written for each record, all numbers decimal:
-// `0 KIND NEXT CHANNEL WORD STAMP` for an arrival, `0 KIND NEXT CHANNEL` and the commands for an image; and last `0 0 OFFSET` at the end, or
-// `NUMBER 0 OFFSET` at a bad record.
+// `0 KIND NEXT CHANNEL WORD STAMP` for an arrival, `0 KIND NEXT CHANNEL` and the commands as they fill the lent words for an image; and last
+// `0 0 OFFSET` at the end, or `NUMBER 0 OFFSET` at a bad record.
 use capture::Cursor;
 use capture::kinds::LENT_WORDS;
 use capture::kinds::LONGEST;
@@ -83,7 +83,7 @@ fn wide(x: u32) -> u64 {
     x as u64
 }
 
-// Adds the commands of an image, the first lent words.
+// Adds the commands of an image as they fill the lent words.
 fn put_commands(text: &mut [u8], long: usize, lent: &[u32], count: usize) -> usize
     requires { ⌜ number ≤ length (now text) ⌝ }
     requires { ⌜ long ≤ length (now text) ⌝ }
@@ -133,7 +133,7 @@ fn show_at(
     let next = answer.next;
     let line = capture_lines::line_of(base, answer);
     let numbers = line.numbers;
-    let count = capture::kinds::commands_of(answer.kind);
+    let count = capture::kinds::lent_of(answer.kind);
     let told = put_numbers(text, long, &numbers, line.count, 0 < count);
     Shown {
         kind: answer.kind,

@@ -29,10 +29,10 @@ impl Writer {
                 0..=19 => self.loose(ARRIVAL, channel, word),
                 // Listed a second time.
                 20..=31 => {
-                    self.loose(MAILBOX_READ, channel, word % 1024);
+                    self.loose(MAILBOX_READ, channel, word % INDEXES as u32);
                     self.loose(ARRIVAL, channel, word);
                 }
-                32..=37 => self.loose(MAILBOX_READ, channel, word % 1024),
+                32..=37 => self.loose(MAILBOX_READ, channel, word % INDEXES as u32),
                 38..=46 => self.loose(FIFO_READ, channel, 0),
                 47 => self.listed_twice(channel, word),
                 48..=52 => {
@@ -54,7 +54,7 @@ impl Writer {
                     if self.dice.chance(50) {
                         self.arrivals(channel, 1);
                     } else {
-                        self.loose(MAILBOX_READ, channel, word % 1024);
+                        self.loose(MAILBOX_READ, channel, word % INDEXES as u32);
                     }
                     self.loose(WRITE_RECEIVE_MODE, channel, 1);
                 }
@@ -75,14 +75,14 @@ impl Writer {
         self.loose(WRITE_RECEIVE_SIZE, channel, 2);
         self.loose(WRITE_FIFO_KIND, channel, 1);
         for op in [MAILBOX_READ, ARRIVAL, MAILBOX_READ, ARRIVAL, MAILBOX_READ] {
-            let a = if op == ARRIVAL { word } else { word % 1024 };
+            let a = if op == ARRIVAL { word } else { word % INDEXES as u32 };
             self.loose(op, channel, a);
         }
         match self.dice.below(3) {
             0 => {
                 let other = word ^ 1;
                 self.loose(FIFO_READ, channel, 0);
-                self.loose(MAILBOX_READ, channel, other % 1024);
+                self.loose(MAILBOX_READ, channel, other % INDEXES as u32);
                 self.loose(ARRIVAL, channel, other);
             }
             1 => {

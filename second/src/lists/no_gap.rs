@@ -1,6 +1,6 @@
 //! Message commands in a row, and all that may stand between two of them.
 
-use super::Writer;
+use super::{Writer, JUMP, NINTH_BIT};
 use crate::layout::*;
 use crate::ops::*;
 
@@ -9,17 +9,17 @@ impl Writer {
     pub(super) fn words_in_a_row(&mut self, channel: u32) {
         self.loose(WRITE_TRANSMITTER, channel, 1);
         self.scheduled_from_0(channel);
-        // In some cases at the end of the RAM, reached by a jump.
-        let first = self.dice.one_of(&[0, 0, 0, 250]);
+        // In some cases at the end of the RAM or over the ninth bit, reached by a jump.
+        let first = self.dice.one_of(&[0, 0, 0, 0, LAST_COMMAND - 3, LAST_COMMAND - 3, NINTH_BIT - 3]);
         if first > 0 {
-            self.call(SCHEDULE_WRITE, channel, 0, 0x6000 | first);
+            self.call(SCHEDULE_WRITE, channel, 0, JUMP | first);
         }
-        for address in first..first + 6 {
+        for address in first..(first + 6).min(COMMANDS as u32) {
             let command = self.command_beside_a_word(address);
             self.call(SCHEDULE_WRITE, channel, address, command);
         }
         if first == 0 {
-            self.call(SCHEDULE_WRITE, channel, 6, 0x6000);
+            self.call(SCHEDULE_WRITE, channel, 6, JUMP);
         }
         for _ in 0..12 {
             self.loose(TRIGGER, channel, 0);
@@ -40,11 +40,11 @@ impl Writer {
             0..=8 => 0x1000 | low,
             9 => 0x2000 | low,
             10 => 0x3000 | low,
-            11 => 0x6000 | (address + 1) % 256,
+            11 => JUMP | (address + 1) % COMMANDS as u32,
             12 => 0x5000,
             13 => 0x4000,
             14 => 0x0000,
-            _ => self.dice.one_of(&[0x6100, 0x7000, 0xF000]),
+            _ => self.dice.one_of(&[0x7000, 0x8000, 0xF000]),
         };
         self.other_bits() | command
     }

@@ -4,7 +4,7 @@
 use second::calls::Item;
 use second::compare::LIST_CALLS;
 use second::layout::*;
-use second::lists::{lists, Event};
+use second::lists::{lists, Event, NINTH_BIT};
 use second::words;
 
 pub const CALLS: u64 = 200_000;
@@ -34,17 +34,20 @@ impl Words {
     /// None where the memory has no such channel; a module-wide call is seen with channel 1.
     pub fn of(mem: &[u32], item: Item) -> Option<Words> {
         let channel = if item.op < 32 { 1 } else { item.channel };
-        if mem.len() < MODULE_WORDS || !(1..=mem[COUNT].min(12)).contains(&channel) || mem.len() < need(mem[COUNT]) {
+        if mem.len() < MODULE_WORDS
+            || !(1..=mem[COUNT].min(CHANNELS)).contains(&channel)
+            || mem.len() < need(mem[COUNT])
+        {
             return None;
         }
         let ch = &mem[block(channel)..][..BLOCK_WORDS];
-        let command = ch[SCHEDULE_RAM + ch[COMMAND] as usize % 256];
+        let command = ch[SCHEDULE_RAM + ch[COMMAND] as usize % COMMANDS];
         Some(Words {
             part: mem[..MODULE_WORDS].try_into().unwrap(),
             ch: ch[..RECEIVE_RING].try_into().unwrap(),
             command,
-            stored: ch[MESSAGE_RAM + command as usize % 256],
-            mailbox: ch[MAILBOXES + 3 * (item.a as usize % 1024)],
+            stored: ch[MESSAGE_RAM + command as usize % MESSAGES],
+            mailbox: ch[MAILBOXES + 3 * (item.a as usize % INDEXES)],
             held: held(ch),
             marked: (1..=mem[COUNT]).filter(|&c| mem[block(c) + WORD_MARK] == 1).count(),
         })
@@ -119,11 +122,22 @@ impl Seen {
     }
 
     pub fn target(&self) -> u32 {
-        self.before.command & 511
+        self.before.command % COMMANDS as u32
     }
 
+    /// At the schedule's last command.
     pub fn last(&self) -> bool {
-        self.is(COMMAND, 255)
+        self.is(COMMAND, LAST_COMMAND)
+    }
+
+    /// At the last command before the ninth address bit.
+    pub fn before_ninth_bit(&self) -> bool {
+        self.is(COMMAND, NINTH_BIT - 1)
+    }
+
+    /// The step leaves the transmitter in this state, at this command.
+    pub fn goes_to(&self, state: u32, command: u32) -> bool {
+        self.after.ch[STATE] == state && self.after.ch[COMMAND] == command
     }
 
     /// A gap, fixed or not, of this many bit times.
@@ -150,7 +164,7 @@ impl Seen {
 
     /// How many of the twelve counters are above a threshold.
     pub fn above(&self, threshold: u32) -> usize {
-        self.before.part[COUNTERS..].iter().filter(|&&counter| counter > threshold).count()
+        self.before.part[COUNTERS..LAYOUT].iter().filter(|&&counter| counter > threshold).count()
     }
 
     /// Conditions 0 to 6 that hold with these words, but for 4 and 5.
@@ -201,6 +215,21 @@ impl Seen {
 
     pub fn part_is_sound(&self) -> bool {
         let part = &self.before.part;
+        part[LAYOUT] == LAYOUT_NUMBER && self.rest_is_sound()
+    }
+
+    /// This layout number, and nothing else of the module part, is unsound.
+    pub fn only_layout(&self, number: u32) -> bool {
+        self.before.part[LAYOUT] == number && self.only_layout_is_wrong()
+    }
+
+    pub fn only_layout_is_wrong(&self) -> bool {
+        self.before.part[LAYOUT] != LAYOUT_NUMBER && self.rest_is_sound()
+    }
+
+    /// The module part but for its layout number.
+    pub fn rest_is_sound(&self) -> bool {
+        let part = &self.before.part;
         part[RESOLUTION] <= 3 && (1..=65_535).contains(&part[THRESHOLD]) && self.above(65_536) == 0
     }
 
@@ -212,9 +241,10 @@ impl Seen {
                 let (least, greatest) = RANGES[op as usize - 32];
                 a == greatest + 1 || a.checked_add(1) == Some(least)
             }
-            130 | 132 => a == 1024,
-            131 => a == 1024 || b == 2,
-            139..=142 => a == 256,
+            130 | 132 => a as usize == INDEXES,
+            131 => a as usize == INDEXES || b == 2,
+            139 | 140 => a as usize == COMMANDS,
+            141 | 142 => a as usize == MESSAGES,
             143 | 145 => a == 2,
             147 | 148 | 150 => a == 128,
             _ => false,
@@ -238,7 +268,7 @@ pub fn for_each_call(seed: u64, with_changes: bool, mut meet: impl FnMut(&Seen))
 
 /// Every call of the lists of a seed; with changes by others as `compare` runs them, else as `replay` does.
 pub fn for_each_answer(seed: u64, with_changes: bool, mut meet: impl FnMut(Item, &[u32], Option<Seen>)) {
-    let mut mem = vec![0; need(12)];
+    let mut mem = vec![0; need(CHANNELS)];
     let mut calls = 0;
     for list in lists(seed, LIST_CALLS) {
         if with_changes {

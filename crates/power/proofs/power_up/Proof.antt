@@ -23,7 +23,7 @@ returns-4 c =
     let blocks = c .before .before .before .before .before .before in
     let a = blocks .before .before .before .before .before .before .before .args in
     let h : need (a .count) ≤ length (a .mem .now) = search needs in
-    search (branches, filled-whole (a .count) (a .mem .now) _ _ h (blocks .fill-channels .ensures) (c .before .before .fill-part .ensures))
+    search (branches, filled-whole (a .count) (a .mem .now) _ _ h (blocks .fill-channels .ensures) (c .before .before .start-part .ensures))
 
 pub power-up-spec : {M : Type 1} → statement M
 unfolding powerRefusal

@@ -1,8 +1,8 @@
--- `show_capture::show_at` meets its contract: a line has at most six numbers, an image no more commands than there are lent words, and a record moves on.
+-- `show_capture::show_at` meets its contract: a line has at most six numbers, an image fills no more than the lent words, and a record moves on.
 -- Assumes nothing.
 use native.Mathlib.Omega.{arith}
 use lib.ListN.{length}
-use Rattle.capture.proofs.Sizes.{few as few-commands}
+use Rattle.capture.proofs.Sizes.{few-lent}
 use Rattle.capture_lines.proofs.Few.{few}
 use Rattle.show_capture.proofs.Moves.{moved}
 use borrow.Author.Needs.{needs}
@@ -30,7 +30,7 @@ put-commands-requires c κs = (
     search needs,
     omega (
       arith,
-      few-commands (c .before .before .before .before .before .before .before .before .before .before .before .before
+      few-lent (c .before .before .before .before .before .before .before .before .before .before .before .before
           .before .read .result .kind),
     ),
   ),

@@ -51,16 +51,17 @@ put-words-requires c κs =
     (c .before .before .if1 .left) in
     (f, omega (arith, few (c .before .before .before .before .look .result .kind)))
 
+put-stops-requires : tie.Need-put-stops-requires
+put-stops-requires c κs = let f = few (c .before .before .before .before .before .before .before .before .look .result .kind) in (omega arith, search needs)
+
 returns-3 : tie.Need-returns-3
 returns-3 c =
-    image (c .before .before .before .before .before .before .before .before .before .before .args .bytes .now)
-    (c .before .before .before .before .before .before .before .before .before .before .args .lent .now)
-    (c .before .before .before .before .before .before .before .before .before .before .args .cursor .offset)
-    (c .before .before .before .before .before .before .before .look .result) (c .before .before .before .before .before .before .commands-of .result)
-    (c .before .before .before .before .before .before .before .look .ensures) (c .before .before .before .before .before .before .commands-of .ensures) _
-    (c .before .before .put-words .ensures) (c .before .before .before .before .before .if1 .left) (omega arith)
+    let start = c .before .before .before .before .before .before .before .before .before .before .before .before .before .before .args in
+    image (start .bytes .now) (start .lent .now) (start .cursor .offset) (c .before .before .before .before .before .before .before .before .before .before .before .look .result) (c .before .before .before .before .before .before .before .before .before .before .commands-of .result)
+    (c .before .before .before .before .before .before .before .before .before .before .before .look .ensures) (c .before .before .before .before .before .before .before .before .before .before .commands-of .ensures) _ _ (c .before .before .before .before .before .before .put-words .ensures) (c .before .before .put-stops .ensures)
+    (c .before .before .before .before .before .before .before .before .before .if1 .left) (omega arith)
 
 pub read-spec : {M : Type 1} → statement M
 read-spec =
     tie.close (tie.spec (λ c κs. search needs) (λ c κs. search needs) returns (λ c κs. search needs) returns-2 add-put-words add-put-words-2
-    add-put-words-3 put-words-requires (λ c. search needs) returns-3)
+    add-put-words-3 put-words-requires put-stops-requires (λ c. search needs) returns-3)
