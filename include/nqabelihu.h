@@ -136,8 +136,8 @@ enum {
 #define NQABELIHU_ROW_NAME(name, number, text) name = number,
 #define NQABELIHU_ROW_TEXT(name, number, text) NQABELIHU_CASE(number, text)
 
-/* The answer's number. 1 to 7 are tested in this order, behind 24 and then 42: the first that applies is given. 20 to 24 are those of capture
- * files and 60 to 64 those of readings, each tested in this order. */
+/* The answer's number. 1 to 7 are tested in this order, behind 24, then 42 and, for a register, 30 to 32: the first that applies is given. 20 to 24
+ * are those of capture files and 60 to 64 those of readings, each tested in this order. */
 #define NQABELIHU_REFUSAL_TABLE(ROW)                                                          \
     ROW(NQABELIHU_DONE, 0, "done")                                                            \
     ROW(NQABELIHU_REFUSED_SHORT, 1, "fewer words lent than the module needs")                 \
@@ -152,6 +152,9 @@ enum {
     ROW(NQABELIHU_REFUSED_KIND, 22, "a record of unknown kind")                               \
     ROW(NQABELIHU_REFUSED_RECORD_CHANNEL, 23, "a record's channel outside 1 to 12")           \
     ROW(NQABELIHU_REFUSED_FEW_VALUES, 24, "lent output too short")                            \
+    ROW(NQABELIHU_REFUSED_NOT_ALIGNED, 30, "a register's address is no multiple of four")     \
+    ROW(NQABELIHU_REFUSED_NO_REGISTER, 31, "no register of twelve channels at the address")   \
+    ROW(NQABELIHU_REFUSED_WRONG_WAY, 32, "a register that is only read, or only written")     \
     ROW(NQABELIHU_REFUSED_NO_CALL, 42, "the op is no call")                                   \
     ROW(NQABELIHU_REFUSED_WRONG_LIST, 60, "an entry of the label list is wrong or cut short") \
     ROW(NQABELIHU_REFUSED_NOT_LISTED, 61, "label not listed, or a bit field to encode")       \
@@ -239,6 +242,26 @@ enum {
     NQABELIHU_COMMAND_JUMP = 0x6000       /* + schedule RAM address */
 };
 
+/* Registers of the AR1 module that are written with a channel mask, bit 0 for channel 1; those of a channel have functions further below. At
+ * NQABELIHU_REGISTER_NONE there is no register. */
+enum {
+    NQABELIHU_REGISTER_NONE = 0,
+    NQABELIHU_REGISTER_TRIGGER = 0x1000,
+    NQABELIHU_REGISTER_PAUSE = 0x1004,
+    NQABELIHU_REGISTER_STOP = 0x1008
+};
+
+/* Bits of a channel's status register: the conditions above in the manual's places, which are others than those of nqabelihu_read_status. */
+typedef enum {
+    NQABELIHU_STATUS_ALMOST_FULL = 0x002,
+    NQABELIHU_STATUS_FULL = 0x004,
+    NQABELIHU_STATUS_EMPTY = 0x010,
+    NQABELIHU_STATUS_ALMOST_EMPTY = 0x020,
+    NQABELIHU_STATUS_PARITY_ERROR = 0x080,
+    NQABELIHU_STATUS_FAULT = 0x200,
+    NQABELIHU_STATUS_INTERRUPT = 0x400
+} nqabelihu_status_bit;
+
 /*
  * Op codes of nqabelihu_perform, beside those of the settings: a setting's number is the op that writes it, and 32 more the one that reads it.
  * The last column is how many values the answer has.
@@ -284,7 +307,9 @@ enum {
     ROW(NQABELIHU_OP_READ_COUNTS, 153, "read counts", 7)                 \
     ROW(NQABELIHU_OP_READ_RECEIVE_LEVEL, 154, "read receive level", 1)   \
     ROW(NQABELIHU_OP_READ_TRANSMIT_LEVEL, 155, "read transmit level", 1) \
-    ROW(NQABELIHU_OP_READ_ASYNC, 156, "read async", 2)
+    ROW(NQABELIHU_OP_READ_ASYNC, 156, "read async", 2)                   \
+    ROW(NQABELIHU_OP_READ_REGISTER, 160, "read register", 1)             \
+    ROW(NQABELIHU_OP_WRITE_REGISTER, 161, "write register", 1)
 
 typedef enum { NQABELIHU_OP_TABLE(NQABELIHU_OP_NAME) } nqabelihu_op;
 enum { NQABELIHU_READ_SETTING = 32 }; /* + the setting: the op that reads it */
@@ -743,6 +768,71 @@ NQABELIHU_LOOK static inline nqabelihu_refusal nqabelihu_read_async(nqabelihu_me
     nqabelihu_refusal refusal = nqabelihu_call_(memory, values, NQABELIHU_OP_READ_ASYNC, channel, 0, 0);
     *waiting = values[0];
     *word = values[1];
+    return refusal;
+}
+
+/* -- registers: 32-bit reads and writes at the addresses of the AR1 module, for a host that was written for it (docs/REGISTERS.md) -- */
+
+/* Channel 1's register and how far each further channel's stands behind; NQABELIHU_REGISTER_NONE for a channel that is not 1 to 12. */
+static inline uint32_t nqabelihu_register_(uint32_t first, uint32_t step, uint32_t channel)
+{
+    if (channel < 1 || NQABELIHU_MOST_CHANNELS < channel)
+        return NQABELIHU_REGISTER_NONE;
+    return first + step * (channel - 1);
+}
+
+/* The same for a word of a RAM; NQABELIHU_REGISTER_NONE for one past its end. */
+static inline uint32_t nqabelihu_ram_register_(uint32_t first, uint32_t words, uint32_t channel, uint32_t address)
+{
+    uint32_t start = nqabelihu_register_(first, 0x1000, channel);
+    if (start == NQABELIHU_REGISTER_NONE || words <= address)
+        return NQABELIHU_REGISTER_NONE;
+    return start + 4 * address;
+}
+
+/* The address of a channel's transmit rate, read and written. */
+static inline uint32_t nqabelihu_rate_register(uint32_t channel)
+{
+    return nqabelihu_register_(0x111C, 0x100, channel);
+}
+
+/* The address of a channel's async word: written as by nqabelihu_write_async, read as the word that waits, or 0. */
+static inline uint32_t nqabelihu_async_register(uint32_t channel)
+{
+    return nqabelihu_register_(0x1120, 0x100, channel);
+}
+
+/* The address of a channel's status, only read: the latched conditions at the bits of nqabelihu_status_bit. */
+static inline uint32_t nqabelihu_status_register(uint32_t channel)
+{
+    return nqabelihu_register_(0x0810, 0x10, channel);
+}
+
+/* The address of a command of a channel's schedule RAM, read and written: a read shows the low 16 bits. */
+static inline uint32_t nqabelihu_schedule_register(uint32_t channel, uint32_t address)
+{
+    return nqabelihu_ram_register_(0x80000, NQABELIHU_SCHEDULE_WORDS, channel, address);
+}
+
+/* The address of a word of a channel's message RAM, read and written. */
+static inline uint32_t nqabelihu_message_register(uint32_t channel, uint32_t address)
+{
+    return nqabelihu_ram_register_(0x90000, NQABELIHU_MESSAGE_WORDS, channel, address);
+}
+
+/* Reads the register at an address. Refused with NOT_ALIGNED, NO_REGISTER and WRONG_WAY, in this order, and then as the call is that it stands for. */
+NQABELIHU_LOOK static inline nqabelihu_refusal nqabelihu_read_register(nqabelihu_memory memory, uint32_t address, uint32_t *value)
+{
+    return nqabelihu_get_(memory, NQABELIHU_OP_READ_REGISTER, 0, address, value);
+}
+
+/* Writes the register at an address, refused likewise. With a channel mask (trigger, pause, stop; bits 0 to 11 count) each named channel is tried in
+ * order and the write is done: look at `refused`, the mask of the named channels that refused. It is 0 for every other register. */
+NQABELIHU_LOOK static inline nqabelihu_refusal nqabelihu_write_register(nqabelihu_memory memory, uint32_t address, uint32_t value, uint32_t *refused)
+{
+    uint32_t values[NQABELIHU_VALUES];
+    nqabelihu_refusal refusal = nqabelihu_call_(memory, values, NQABELIHU_OP_WRITE_REGISTER, 0, address, value);
+    *refused = values[0];
     return refusal;
 }
 

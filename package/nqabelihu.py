@@ -8,8 +8,9 @@
     entry = module.read_receive_fifo(1)           # Entry(status=0, word=0x6000012B, stamp=0)
     oct(nqabelihu.label(entry.word))              # 0o324
 
-A call has the name of its op, and takes the channel (calls on a channel) and what docs/CALLS.md lists. It gives nothing, a number, or a tuple;
-where it is refused it raises Refused, which has the number and its text. `perform` gives a refusal as an answer.
+A call has the name of its op, and takes the channel (calls on a channel) and what docs/CALLS.md lists; read_register and write_register take an
+address of docs/REGISTERS.md. It gives nothing, a number, or a tuple; where it is refused it raises Refused, which has the number and its text.
+`perform` gives a refusal as an answer.
 """
 import collections
 import ctypes
@@ -123,6 +124,13 @@ class Module:
     def read_setting(self, channel, setting):
         return self._done(setting + READ_SETTING if setting_text(setting) != "unknown" else 0, channel)
 
+    def read_register(self, address):
+        return self._done(OP_READ_REGISTER, 0, address)
+
+    def write_register(self, address, value):
+        """The mask of the channels that refused where the register takes a channel mask (trigger, pause, stop), else 0."""
+        return self._done(OP_WRITE_REGISTER, 0, address, value)
+
 
 def _call(op):
     def wide(self, a=0):
@@ -142,7 +150,7 @@ def _field(name, arguments):
 
 
 for _name, _number, _, _values in TABLES:
-    if _name.startswith("OP_"):
+    if _name.startswith("OP_") and not hasattr(Module, _name[3:].lower()):
         setattr(Module, _name[3:].lower(), _call(_number))
 for _name in ("label", "low_byte", "sdi", "data_bits", "sign_status", "index_of_word", "with_odd_parity"):
     globals()[_name] = _field(_name, 1)

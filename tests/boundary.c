@@ -1,8 +1,8 @@
 /*
- * The C interface at its limits: no memory, short memory, too few words for the values, every op number, damaged memory. Lent parts stand
- * against pages that may not be touched, at their end and at their start, since the sanitizers see this program's own accesses and not
- * those of the library. A failed check prints its line and exits with status 1. The parts of the header that stand on these calls follow in
- * kit.c.
+ * The C interface at its limits: no memory, short memory, too few words for the values, every op number, every address of a register, damaged
+ * memory. Lent parts stand against pages that may not be touched, at their end and at their start, since the sanitizers see this program's own
+ * accesses and not those of the library. A failed check prints its line and exits with status 1. The parts of the header that stand on these
+ * calls follow in kit.c.
  */
 #define _DEFAULT_SOURCE
 #include <stdio.h>
@@ -61,7 +61,7 @@ static uint32_t edge(void)
 /* How many values an op answers beside the number; -1 for an op that is no call. */
 static int values_of(uint32_t op)
 {
-    if (op == 0 || (9 < op && op < 32) || (43 < op && op < 64) || (75 < op && op < 128) || 156 < op)
+    if (op == 0 || (9 < op && op < 32) || (43 < op && op < 64) || (75 < op && op < 128) || (156 < op && op < 160) || 161 < op)
         return -1;
     if (64 <= op && op <= 75)
         return 1;
@@ -88,10 +88,65 @@ static int values_of(uint32_t op)
     case 152:
     case 154:
     case 155:
+    case 160:
+    case 161:
         return 1;
     default:
         return 0;
     }
+}
+
+/* ---- the map of docs/REGISTERS.md ---- */
+
+static int is_access(uint32_t op)
+{
+    return op == 160 || op == 161;
+}
+
+/* What a register is for. */
+enum { NO_REGISTER, BOTH_WAYS, ONLY_READ, ONLY_WRITTEN };
+
+static int register_at(uint32_t address)
+{
+    uint32_t further;
+    if (address == 0x1000 || address == 0x1004 || address == 0x1008)
+        return ONLY_WRITTEN;
+    for (further = 0; further < 12; further++) {
+        if (address == 0x0810 + 0x10 * further)
+            return ONLY_READ;
+        if (address == 0x111C + 0x100 * further || address == 0x1120 + 0x100 * further)
+            return BOTH_WAYS;
+        if (0x80000 + 0x1000 * further <= address && address <= 0x807FC + 0x1000 * further)
+            return BOTH_WAYS;
+        if (0x90000 + 0x1000 * further <= address && address <= 0x903FC + 0x1000 * further)
+            return BOTH_WAYS;
+    }
+    return NO_REGISTER;
+}
+
+/* What an item is refused with whatever the memory: 42, and of a register 30 to 32; `otherwise` where there is nothing of that. */
+static uint32_t refused_or(uint32_t op, uint32_t a, uint32_t otherwise)
+{
+    if (values_of(op) < 0)
+        return NQABELIHU_REFUSED_NO_CALL;
+    if (!is_access(op))
+        return otherwise;
+    if (a % 4 != 0)
+        return NQABELIHU_REFUSED_NOT_ALIGNED;
+    if (register_at(a) == NO_REGISTER)
+        return NQABELIHU_REFUSED_NO_REGISTER;
+    if (register_at(a) == (op == 160 ? ONLY_WRITTEN : ONLY_READ))
+        return NQABELIHU_REFUSED_WRONG_WAY;
+    return otherwise;
+}
+
+/* An address on a register, beside one, between two or past the last. */
+static uint32_t some_address(void)
+{
+    static const uint32_t areas[][2] = {{0x111C, 0x100}, {0x1120, 0x100}, {0x0810, 0x10}, {0x80000, 0x1000}, {0x90000, 0x1000}, {0x1000, 4}};
+    static const uint32_t beside[] = {0, 0, 0, 0, 4, 0x3FC, 0x400, 0x7FC, 0x800, 1, 2, 0xFFFFFFFC};
+    const uint32_t *area = areas[below(sizeof areas / sizeof areas[0])];
+    return area[0] + area[1] * below(13) + beside[below(sizeof beside / sizeof beside[0])];
 }
 
 /* An item on lent memory, with exactly seven words for the values. */
@@ -147,8 +202,8 @@ static void little_memory(void)
         for (at = 0; at < words; at++)
             copy[at] = memory[at] = edge();
         for (op = 0; op < 400; op++) {
-            uint32_t expected = values_of(op) < 0 ? NQABELIHU_REFUSED_NO_CALL : NQABELIHU_REFUSED_SHORT;
-            CHECK(item(memory, words, op, 1, 1, 1) == expected, "op %u on %u words", (unsigned)op, (unsigned)words);
+            uint32_t a = is_access(op) ? some_address() : 1;
+            CHECK(item(memory, words, op, 1, a, 1) == refused_or(op, a, NQABELIHU_REFUSED_SHORT), "op %u on %u words", (unsigned)op, (unsigned)words);
         }
         CHECK(item(memory, words, 1, 0, 0, 0) == NQABELIHU_REFUSED_RANGE, "power-up of 0 channels on %u words", (unsigned)words);
         CHECK(item(memory, words, 1, 0, 12, 0) == NQABELIHU_REFUSED_SHORT, "power-up of 12 channels on %u words", (unsigned)words);
@@ -183,8 +238,8 @@ static void exact_memory(uint32_t count, int side)
     memcpy(copy, exact, need * sizeof *copy);
     memcpy(shorter, exact, (need - 1) * sizeof *shorter);
     for (op = 2; op < 200; op++) {
-        uint32_t expected = values_of(op) < 0 ? NQABELIHU_REFUSED_NO_CALL : NQABELIHU_REFUSED_SHORT;
-        CHECK(item(shorter, need - 1, op, 1, 1, 1) == expected, "op %u on one word less", (unsigned)op);
+        uint32_t a = is_access(op) ? some_address() : 1;
+        CHECK(item(shorter, need - 1, op, 1, a, 1) == refused_or(op, a, NQABELIHU_REFUSED_SHORT), "op %u on one word less", (unsigned)op);
     }
     CHECK(memcmp(shorter, copy, (need - 1) * sizeof *copy) == 0, "memory of one word less was changed");
 
@@ -193,6 +248,8 @@ static void exact_memory(uint32_t count, int side)
         item(exact, need, op, 1, below(2), below(2));
         item(exact, need, op, count, edge(), edge());
     }
+    for (at = 0; at < 2000; at++)
+        item(exact, need, 160 + below(2), edge(), some_address(), edge());
     free(copy);
 }
 
@@ -250,12 +307,28 @@ static void every_op(void)
         if (op != 1 && values_of(op) < 0) {
             CHECK(item(memory, need, op, 1, 1, 1) == NQABELIHU_REFUSED_NO_CALL, "op %u is taken for a call", (unsigned)op);
             CHECK(memcmp(memory, copy, need * sizeof *copy) == 0, "op %u, no call, changed the memory", (unsigned)op);
+        } else if (is_access(op)) {
+            CHECK(item(memory, need, op, 1, 1, 1) == NQABELIHU_REFUSED_NOT_ALIGNED, "op %u at address 1", (unsigned)op);
         } else {
             CHECK(item(memory, need, op, 1, 1, 1) < 8, "op %u is a call", (unsigned)op);
             CHECK(item(memory, need, 1, 0, COUNT, 0) == NQABELIHU_DONE, "power-up");
         }
     }
     free(copy);
+}
+
+/* Every address up to the end of the map, and some behind it, both ways: a register's own refusals come first, also with no memory. */
+static void every_address(void)
+{
+    uint32_t op, address, turn;
+    for (op = 160; op <= 161; op++) {
+        for (address = 0; address < 0xA0000; address++)
+            CHECK(item(NULL, 0, op, 1, address, 1) == refused_or(op, address, NQABELIHU_REFUSED_SHORT), "op %u at %05x", (unsigned)op, (unsigned)address);
+        for (turn = 0; turn < 1000; turn++) {
+            address = turn < 32 ? 0xFFFFFFFF << turn : 0x100000 * (1 + below(0xFFF)) + some_address() % 0x100000;
+            CHECK(item(NULL, 0, op, 1, address, 1) == refused_or(op, address, NQABELIHU_REFUSED_SHORT), "op %u at %08x", (unsigned)op, (unsigned)address);
+        }
+    }
 }
 
 /* Random calls on sound and damaged, whole and short memory: a refusal changes nothing, and words beyond the need are never touched. */
@@ -271,12 +344,14 @@ static void random_calls(void)
         memory[at] = SENTINEL;
     CHECK(item(memory, whole, 1, 0, COUNT, 0) == NQABELIHU_DONE, "power-up");
     for (turn = 0; turn < 30000; turn++) {
-        uint32_t op = below(4) == 0 ? below(170) : 128 + below(29);
+        uint32_t op = below(4) == 0 ? below(170) : below(6) == 0 ? 160 + below(2) : 128 + below(29);
         uint32_t channel = below(10) == 0 ? edge() : 1 + below(COUNT);
         uint32_t a = below(3) == 0 ? edge() : below(2), b = below(3) == 0 ? edge() : below(2), number, old = 0;
         size_t damaged = whole;
         if (op == 1)
             a = COUNT;
+        if (is_access(op))
+            a = some_address();
         if (below(8) == 0) {
             /* a number with a range, in the module part or a block */
             damaged = below(2) == 0 ? below(NQABELIHU_MODULE_WORDS) : NQABELIHU_MODULE_WORDS + NQABELIHU_CHANNEL_WORDS * below(COUNT) + below(RANGED);
@@ -292,8 +367,8 @@ static void random_calls(void)
         } else {
             refused++;
             CHECK(memcmp(memory, before, whole * sizeof *before) == 0, "op %u refused with %u changed the memory", (unsigned)op, (unsigned)number);
-            CHECK(number < 8 ? values_of(op) >= 0 : number == NQABELIHU_REFUSED_NO_CALL && values_of(op) < 0, "op %u answered %u", (unsigned)op,
-                  (unsigned)number);
+            CHECK(refused_or(op, a, number) == number && (number < 8 || refused_or(op, a, NQABELIHU_DONE) == number), "op %u answered %u",
+                  (unsigned)op, (unsigned)number);
         }
         if (damaged < whole && op != 1)
             memory[damaged] = old;
@@ -326,11 +401,11 @@ static void old_layout(const uint32_t (*image)[2], size_t pairs, uint32_t count)
     memcpy(larger, before, whole * sizeof *larger);
     for (op = 2; op < 200; op++)
         for (turn = 0; turn < 4; turn++) {
-            uint32_t channel = turn == 0 ? edge() : 1 + below(count), a = edge(), b = edge();
-            uint32_t short_or = values_of(op) < 0 ? NQABELIHU_REFUSED_NO_CALL : NQABELIHU_REFUSED_SHORT;
-            uint32_t unsound_or = values_of(op) < 0 ? NQABELIHU_REFUSED_NO_CALL : NQABELIHU_REFUSED_UNSOUND;
-            CHECK(item(own, old, op, channel, a, b) == short_or, "op %u on old memory of %u channels", (unsigned)op, (unsigned)count);
-            CHECK(item(larger, whole, op, channel, a, b) == unsound_or, "op %u on old memory of %u channels, more lent", (unsigned)op, (unsigned)count);
+            uint32_t channel = turn == 0 ? edge() : 1 + below(count), a = is_access(op) ? some_address() : edge(), b = edge();
+            CHECK(item(own, old, op, channel, a, b) == refused_or(op, a, NQABELIHU_REFUSED_SHORT), "op %u on old memory of %u channels", (unsigned)op,
+                  (unsigned)count);
+            CHECK(item(larger, whole, op, channel, a, b) == refused_or(op, a, NQABELIHU_REFUSED_UNSOUND),
+                  "op %u on old memory of %u channels, more lent", (unsigned)op, (unsigned)count);
         }
     CHECK(item(own, old, 1, 0, count, 0) == NQABELIHU_REFUSED_SHORT, "power-up of %u channels on old memory", (unsigned)count);
     CHECK(memcmp(own, before, old * sizeof *own) == 0 && memcmp(larger, before, whole * sizeof *larger) == 0, "old memory was changed");
@@ -449,6 +524,14 @@ static void by_name(void)
         same("read_level_mask", nqabelihu_read_level_mask(named, 1, r), 151, 1, 0, 0, 1, r);
         same("read_status", nqabelihu_read_status(named, 1, r), 146, 1, 0, 0, 1, r);
         same("read_receive_level", nqabelihu_read_receive_level(named, 1, r), 154, 1, 0, 0, 1, r);
+        same("write_register", nqabelihu_write_register(named, 0x111C, 9 + (uint32_t)turn, r), 161, 0, 0x111C, 9 + (uint32_t)turn, 1, r);
+        same("read_register", nqabelihu_read_register(named, 0x111C, r), 160, 0, 0x111C, 0, 1, r);
+        same("write_register", nqabelihu_write_register(named, 0x91014, word, r), 161, 0, 0x91014, word, 1, r);
+        same("read_register", nqabelihu_read_register(named, 0x91014, r), 160, 0, 0x91014, 0, 1, r);
+        same("read_register", nqabelihu_read_register(named, 0x0810, r), 160, 0, 0x0810, 0, 1, r);
+        same("write_register", nqabelihu_write_register(named, 0x1000, 0xFFF, r), 161, 0, 0x1000, 0xFFF, 1, r);
+        same("write_register", nqabelihu_write_register(named, 0x1004, 2, r), 161, 0, 0x1004, 2, 1, r);
+        same("write_register", nqabelihu_write_register(named, 0x0810, 2, r), 161, 0, 0x0810, 2, 1, r);
     }
     number = nqabelihu_read_receive_fifo(named, 1, &e);
     same("read_receive_fifo", number, 129, 1, 0, 0, 3, (uint32_t[]){e.status, e.word, e.stamp});
@@ -976,6 +1059,7 @@ int main(void)
     exact_memory(NQABELIHU_MOST_CHANNELS, AT_END);
     few_values();
     every_op();
+    every_address();
     random_calls();
     old_layout(old_off, sizeof old_off / sizeof old_off[0], 1);
     old_layout(old_on, sizeof old_on / sizeof old_on[0], 3);

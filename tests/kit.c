@@ -1,5 +1,6 @@
 /*
- * What the header builds on the calls: the fields of a word, texts, a step's output, the drain of a FIFO, the tally of outcomes, and the recorder.
+ * What the header builds on the calls: the fields of a word, texts, a step's output, the drain of a FIFO, the tally of outcomes, registers, and
+ * the recorder.
  */
 #include <stdio.h>
 #include <string.h>
@@ -65,6 +66,9 @@ static const row refusals[] = {{0, "done"},
                                {22, "a record of unknown kind"},
                                {23, "a record's channel outside 1 to 12"},
                                {24, "lent output too short"},
+                               {30, "a register's address is no multiple of four"},
+                               {31, "no register of twelve channels at the address"},
+                               {32, "a register that is only read, or only written"},
                                {42, "the op is no call"},
                                {60, "an entry of the label list is wrong or cut short"},
                                {61, "label not listed, or a bit field to encode"},
@@ -132,7 +136,9 @@ static const row ops[] = {{1, "power up"},
                           {153, "read counts"},
                           {154, "read receive level"},
                           {155, "read transmit level"},
-                          {156, "read async"}};
+                          {156, "read async"},
+                          {160, "read register"},
+                          {161, "write register"}};
 
 #define TEXTS(table, text_of, type)                                                                                                \
     do {                                                                                                                           \
@@ -341,18 +347,195 @@ static void exchanged(void)
         }
 }
 
+/* ---- registers ---- */
+
+/* A register read: the refusal and the value. */
+static void is_register(uint32_t address, uint32_t refusal, uint32_t value, int line)
+{
+    uint32_t given = 99, got = nqabelihu_read_register(m, address, &given);
+    CHECK(got == refusal && given == value, "register %05x read in line %d: %u %08x", (unsigned)address, line, (unsigned)got, (unsigned)given);
+}
+
+/* A register written: the refusal, and the mask of the channels that refused. */
+static void is_written(uint32_t address, uint32_t value, uint32_t refusal, uint32_t refused, int line)
+{
+    uint32_t given = 99, got = nqabelihu_write_register(m, address, value, &given);
+    CHECK(got == refusal && given == refused, "register %05x written in line %d: %u %03x", (unsigned)address, line, (unsigned)got, (unsigned)given);
+}
+
+#define READS(address, value) is_register(address, NQABELIHU_DONE, value, __LINE__)
+#define WRITES(address, value) is_written(address, value, NQABELIHU_DONE, 0, __LINE__)
+#define MASKS(address, value, refused) is_written(address, value, NQABELIHU_DONE, refused, __LINE__)
+#define NOT_READ(address, refusal) is_register(address, NQABELIHU_REFUSED_##refusal, 0, __LINE__)
+#define NOT_WRITTEN(address, value, refusal) is_written(address, value, NQABELIHU_REFUSED_##refusal, 0, __LINE__)
+
+/* The map of docs/REGISTERS.md, by the header's functions: no other channel, and no word past a RAM's end, has a register. */
+static void addresses(void)
+{
+    static const uint32_t outside[] = {0, 13, 17, 0x10000001, 0xFFFFFFFF};
+    uint32_t channel, at;
+    for (channel = 1; channel <= 12; channel++) {
+        CHECK(nqabelihu_rate_register(channel) == 0x101C + 0x100 * channel, "rate of channel %u", (unsigned)channel);
+        CHECK(nqabelihu_async_register(channel) == 0x1020 + 0x100 * channel, "async of channel %u", (unsigned)channel);
+        CHECK(nqabelihu_status_register(channel) == 0x0800 + 0x10 * channel, "status of channel %u", (unsigned)channel);
+        for (at = 0; at < 512; at++)
+            CHECK(nqabelihu_schedule_register(channel, at) == 0x7F000 + 0x1000 * channel + 4 * at, "command %u", (unsigned)at);
+        for (at = 0; at < 256; at++)
+            CHECK(nqabelihu_message_register(channel, at) == 0x8F000 + 0x1000 * channel + 4 * at, "message %u", (unsigned)at);
+        CHECK(nqabelihu_schedule_register(channel, 512) == NQABELIHU_REGISTER_NONE, "past the schedule RAM");
+        CHECK(nqabelihu_schedule_register(channel, 1024) == NQABELIHU_REGISTER_NONE, "past the schedule RAM");
+        CHECK(nqabelihu_message_register(channel, 256) == NQABELIHU_REGISTER_NONE, "past the message RAM");
+        CHECK(nqabelihu_message_register(channel, 0xFFFFFFFF) == NQABELIHU_REGISTER_NONE, "past the message RAM");
+    }
+    for (at = 0; at < sizeof outside / sizeof outside[0]; at++) {
+        channel = outside[at];
+        CHECK(nqabelihu_rate_register(channel) == NQABELIHU_REGISTER_NONE && nqabelihu_async_register(channel) == NQABELIHU_REGISTER_NONE
+                  && nqabelihu_status_register(channel) == NQABELIHU_REGISTER_NONE && nqabelihu_schedule_register(channel, 0) == NQABELIHU_REGISTER_NONE
+                  && nqabelihu_message_register(channel, 0) == NQABELIHU_REGISTER_NONE,
+              "channel %u has a register", (unsigned)channel);
+    }
+    NOT_READ(NQABELIHU_REGISTER_NONE, NO_REGISTER);
+    NOT_WRITTEN(NQABELIHU_REGISTER_NONE, 0, NO_REGISTER);
+}
+
+/* Each register beside the call that it stands for. */
+static void single_registers(void)
+{
+    enum { LATCH = 19 /* the word of a block */ };
+    static const uint32_t shown[7] = {NQABELIHU_STATUS_ALMOST_FULL, NQABELIHU_STATUS_FULL,      NQABELIHU_STATUS_ALMOST_EMPTY, NQABELIHU_STATUS_EMPTY,
+                                      NQABELIHU_STATUS_PARITY_ERROR, NQABELIHU_STATUS_INTERRUPT, NQABELIHU_STATUS_FAULT};
+    uint32_t *latch = words + NQABELIHU_MODULE_WORDS + NQABELIHU_CHANNEL_WORDS + LATCH;
+    uint32_t value, waiting, condition;
+    DO(nqabelihu_power_up(m, 2));
+
+    READS(nqabelihu_rate_register(2), 4);
+    WRITES(nqabelihu_rate_register(2), 1048575);
+    READS(nqabelihu_rate_register(2), 1048575);
+    NOT_WRITTEN(nqabelihu_rate_register(2), 1048576 + 99, RANGE); /* not cut to 20 bits */
+    NOT_WRITTEN(nqabelihu_rate_register(2), 3, RANGE);
+    DO(nqabelihu_read_setting(m, 2, NQABELIHU_SETTING_RATE, &value));
+    CHECK(value == 1048575, "the rate of channel 2");
+    NOT_READ(nqabelihu_rate_register(3), CHANNEL);
+    NOT_WRITTEN(nqabelihu_rate_register(12), 9, CHANNEL);
+
+    READS(nqabelihu_async_register(2), 0); /* in any mode */
+    NOT_WRITTEN(nqabelihu_async_register(2), 7, MODE);
+    DO(nqabelihu_write_setting(m, 2, NQABELIHU_SETTING_TRANSMIT_MODE, NQABELIHU_TRANSMIT_MODE_SCHEDULED));
+    WRITES(nqabelihu_async_register(2), 0x8000ABCD);
+    NOT_WRITTEN(nqabelihu_async_register(2), 7, FULL);
+    READS(nqabelihu_async_register(2), 0x8000ABCD);
+    DO(nqabelihu_read_async(m, 2, &waiting, &value));
+    CHECK(waiting == 1 && value == 0x8000ABCD, "the async word");
+
+    WRITES(nqabelihu_schedule_register(2, 511), 0xABCD6100);
+    READS(nqabelihu_schedule_register(2, 511), 0x6100);
+    DO(nqabelihu_read_schedule(m, 2, 511, &value));
+    CHECK(value == 0xABCD6100, "a command is stored as it is");
+    WRITES(nqabelihu_message_register(2, 255), 0xFFFFFFFF);
+    READS(nqabelihu_message_register(2, 255), 0xFFFFFFFF);
+    DO(nqabelihu_read_message(m, 2, 255, &value));
+    CHECK(value == 0xFFFFFFFF, "a word of the message RAM");
+
+    for (condition = 0; condition < 7; condition++) {
+        *latch = 1u << condition;
+        READS(nqabelihu_status_register(2), shown[condition]);
+        DO(nqabelihu_read_status(m, 2, &value));
+        CHECK(value == 1u << condition, "condition %u by call", (unsigned)condition);
+    }
+    *latch = NQABELIHU_ALL_CONDITIONS;
+    READS(nqabelihu_status_register(2), 0x6B6);
+    READS(nqabelihu_status_register(1), 0);
+
+    /* 30, 31 and 32 in this order */
+    NOT_READ(0x111D, NOT_ALIGNED);
+    NOT_WRITTEN(0x1002, 1, NOT_ALIGNED);
+    NOT_READ(0x1D1C, NO_REGISTER); /* of a channel 13 */
+    NOT_WRITTEN(0x80800, 1, NO_REGISTER);
+    NOT_READ(0x90400, NO_REGISTER);
+    NOT_WRITTEN(nqabelihu_status_register(1), 0, WRONG_WAY);
+    NOT_WRITTEN(nqabelihu_status_register(12), 0, WRONG_WAY);
+    NOT_READ(NQABELIHU_REGISTER_TRIGGER, WRONG_WAY);
+    NOT_READ(NQABELIHU_REGISTER_PAUSE, WRONG_WAY);
+    NOT_READ(NQABELIHU_REGISTER_STOP, WRONG_WAY);
+}
+
+/* The form of one step on channel 1 and on channel 2. */
+static void is_stepped(nqabelihu_form first, nqabelihu_form second, int line)
+{
+    nqabelihu_output one, two;
+    DO(nqabelihu_step(m, 1, &one));
+    DO(nqabelihu_step(m, 2, &two));
+    CHECK(one.form == first && two.form == second, "steps of line %d: %u and %u", line, (unsigned)one.form, (unsigned)two.form);
+}
+
+#define STEPS(first, second) is_stepped(NQABELIHU_FORM_##first, NQABELIHU_FORM_##second, __LINE__)
+
+/* Trigger, pause and stop with a channel mask: bits 0 to 11 name channels, each is tried, and those that refuse are told. */
+static void masked_registers(void)
+{
+    static uint32_t before[NQABELIHU_WORDS(2)];
+    enum { STATE = 16 /* the word of a block */ };
+    uint32_t *first_state = words + NQABELIHU_MODULE_WORDS + STATE;
+    nqabelihu_memory whole = m;
+    uint32_t channel, at;
+    DO(nqabelihu_power_up(m, 2));
+    for (channel = 1; channel <= 2; channel++) {
+        DO(nqabelihu_write_setting(m, channel, NQABELIHU_SETTING_TRANSMIT_MODE, NQABELIHU_TRANSMIT_MODE_TRIGGERED));
+        for (at = 0; at < 9; at++)
+            DO(nqabelihu_write_transmit_fifo(m, channel, at));
+    }
+    /* the transmitter of channel 2 is off, and channels 3 to 12 are above the count */
+    DO(nqabelihu_write_setting(m, 1, NQABELIHU_SETTING_TRANSMITTER, 1));
+    MASKS(NQABELIHU_REGISTER_TRIGGER, 0, 0);
+    MASKS(NQABELIHU_REGISTER_TRIGGER, 0xFFFFF000, 0);
+    STEPS(QUIET, QUIET);
+    MASKS(NQABELIHU_REGISTER_TRIGGER, 0xFFFFFFFF, 0xFFE);
+    STEPS(FIFO_WORD, QUIET);
+    DO(nqabelihu_write_setting(m, 2, NQABELIHU_SETTING_TRANSMITTER, 1));
+    MASKS(NQABELIHU_REGISTER_TRIGGER, 2, 0);
+    STEPS(FIFO_WORD, FIFO_WORD);
+    MASKS(NQABELIHU_REGISTER_PAUSE, 0x801, 0x800);
+    STEPS(QUIET, FIFO_WORD);
+    MASKS(NQABELIHU_REGISTER_TRIGGER, 1, 0);
+    MASKS(NQABELIHU_REGISTER_STOP, 2, 0);
+    STEPS(FIFO_WORD, QUIET);
+    MASKS(NQABELIHU_REGISTER_TRIGGER, 6, 4);
+    STEPS(FIFO_WORD, FIFO_WORD);
+
+    /* an unsound channel refuses, and those behind it are tried */
+    *first_state = 3;
+    MASKS(NQABELIHU_REGISTER_STOP, 3, 1);
+    *first_state = 1;
+    STEPS(FIFO_WORD, QUIET);
+
+    /* short memory or an unsound module part refuses the whole write, whomever it names */
+    memcpy(before, words, sizeof words);
+    m.count--;
+    NOT_WRITTEN(NQABELIHU_REGISTER_STOP, 0xFFF, SHORT);
+    NOT_WRITTEN(NQABELIHU_REGISTER_STOP, 0, SHORT);
+    NOT_WRITTEN(0x100C, 0, NO_REGISTER);
+    NOT_READ(NQABELIHU_REGISTER_STOP, WRONG_WAY);
+    m = whole;
+    words[NQABELIHU_MODULE_WORDS - 1]++;
+    NOT_WRITTEN(NQABELIHU_REGISTER_STOP, 0xFFF, UNSOUND);
+    NOT_WRITTEN(NQABELIHU_REGISTER_STOP, 0, UNSOUND);
+    words[NQABELIHU_MODULE_WORDS - 1]--;
+    CHECK(memcmp(before, words, sizeof words) == 0, "a masked write that was refused changed the memory");
+}
+
 /* ---- the recorder ---- */
 
 static void recorder(void)
 {
     static uint32_t others[NQABELIHU_WORDS(1)];
-    static const unsigned char expected[4][NQABELIHU_ITEM_BYTES] = {{1, 0, 0, 0, 0, 0, 0, 0, 2, 0, 0, 0, 0, 0, 0, 0},
+    static const unsigned char expected[5][NQABELIHU_ITEM_BYTES] = {{1, 0, 0, 0, 0, 0, 0, 0, 2, 0, 0, 0, 0, 0, 0, 0},
                                                                      {129, 0, 0, 0, 2, 0, 0, 0, 0, 0, 0, 0, 0, 0, 0, 0},
                                                                      {141, 0, 0, 0, 1, 0, 0, 0, 9, 0, 0, 0, 0x44, 0x33, 0x22, 0x81},
+                                                                     {161, 0, 0, 0, 0, 0, 0, 0, 0x24, 0, 9, 0, 0x44, 0x33, 0x22, 0x81},
                                                                      {2, 0, 0, 0, 0, 0, 0, 0, 0, 0, 0, 0, 0, 0, 0, 0}};
     nqabelihu_memory other = {others, NQABELIHU_WORDS(1)};
     nqabelihu_entry entry;
-    unsigned char bytes[5 * NQABELIHU_ITEM_BYTES];
+    unsigned char bytes[6 * NQABELIHU_ITEM_BYTES];
     FILE *file = tmpfile(), *full = fopen("/dev/full", "wb");
     size_t length;
     CHECK(file != NULL, "no temporary file");
@@ -361,6 +544,7 @@ static void recorder(void)
     DO(nqabelihu_power_up(other, 1));
     CHECK(nqabelihu_read_receive_fifo(m, 2, &entry) == NQABELIHU_REFUSED_EMPTY, "empty");
     DO(nqabelihu_write_message(m, 1, 9, 0x81223344));
+    WRITES(nqabelihu_message_register(1, 9), 0x81223344);
     CHECK(reset_elsewhere(m.words, m.count) == NQABELIHU_DONE, "reset in another source file");
     nqabelihu_record(m, NULL);
     DO(nqabelihu_module_reset(m));
@@ -435,6 +619,9 @@ void kit(void)
     losses_by_level(NQABELIHU_FIFO_KIND_BOUNDED);
     losses_by_level(NQABELIHU_FIFO_KIND_CIRCULAR);
     exchanged();
+    addresses();
+    single_registers();
+    masked_registers();
     recorder();
     captures();
 }

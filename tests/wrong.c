@@ -7,7 +7,7 @@
 
 #include "../include/nqabelihu.h"
 
-#define LAST_WRONG 29
+#define LAST_WRONG 33
 
 uint32_t __real_nqabelihu_perform(uint32_t *memory, size_t words, uint32_t *values, size_t places, uint32_t op, uint32_t channel, uint32_t a,
                                   uint32_t b);
@@ -98,6 +98,16 @@ uint32_t __wrap_nqabelihu_perform(uint32_t *memory, size_t words, uint32_t *valu
         return number;
     }
 #endif
+#if WRONG == 30 /* an address that is not aligned is that of the register around it */
+    if (op == 160 || op == 161)
+        a -= a % 4;
+#elif WRONG == 31 /* a channel mask names channels up to the first that refuses */
+    if (op == 161 && a == NQABELIHU_REGISTER_STOP && (b & 1) != 0) {
+        number = __real_nqabelihu_perform(memory, words, values, places, op, channel, a, 1);
+        if (number != 0 || values[0] != 0)
+            return number;
+    }
+#endif
     number = __real_nqabelihu_perform(memory, words, values, places, op, channel, a, b);
 #if WRONG == 7 /* a refusal changes the stamp */
     if (number != 0 && words > 1)
@@ -126,6 +136,12 @@ uint32_t __wrap_nqabelihu_perform(uint32_t *memory, size_t words, uint32_t *valu
 #elif WRONG == 15 /* a value is missing */
     if (number == 0 && op == 153)
         values[0] = 0;
+#elif WRONG == 32 /* the word past a RAM's end has a register */
+    if (number == 31 && a == 0x90400)
+        return words == 0 ? 1 : 0;
+#elif WRONG == 33 /* the status register has the conditions at the bits of a status read */
+    if (number == 0 && op == 160 && a == 0x0820)
+        number = __real_nqabelihu_perform(memory, words, values, places, 146, 2, 0, 0);
 #endif
     return number;
 }

@@ -1,4 +1,5 @@
-//! An allocator that can be made to cost next to nothing, for one vector at a time: a stack in a fixed array.
+//! An allocator that can be made to cost next to nothing, for the few vectors of a call: a stack in a fixed array, which starts anew when all
+//! its blocks are given back, in whatever order.
 
 use std::alloc::{GlobalAlloc, Layout, System};
 use std::cell::UnsafeCell;
@@ -10,6 +11,8 @@ const SIZE: usize = 4096;
 struct Stack {
     bytes: UnsafeCell<[u8; SIZE]>,
     top: UnsafeCell<usize>,
+    /// Blocks that are not given back.
+    live: UnsafeCell<usize>,
     on: AtomicBool,
 }
 
@@ -17,7 +20,12 @@ struct Stack {
 unsafe impl Sync for Stack {}
 
 #[global_allocator]
-static STACK: Stack = Stack { bytes: UnsafeCell::new([0; SIZE]), top: UnsafeCell::new(0), on: AtomicBool::new(false) };
+static STACK: Stack = Stack {
+    bytes: UnsafeCell::new([0; SIZE]),
+    top: UnsafeCell::new(0),
+    live: UnsafeCell::new(0),
+    on: AtomicBool::new(false),
+};
 
 /// Turns the stack on or off for what is allocated from now on.
 pub fn cheap(on: bool) {
@@ -31,6 +39,14 @@ impl Stack {
         let place = (block as usize).wrapping_sub(self.bytes.get() as usize);
         (place < SIZE).then_some(place)
     }
+
+    #[inline(always)]
+    unsafe fn give_back(&self) {
+        *self.live.get() -= 1;
+        if *self.live.get() == 0 {
+            *self.top.get() = 0;
+        }
+    }
 }
 
 unsafe impl GlobalAlloc for Stack {
@@ -41,13 +57,14 @@ unsafe impl GlobalAlloc for Stack {
             return System.alloc(layout);
         }
         *self.top.get() = top + layout.size();
+        *self.live.get() += 1;
         (self.bytes.get() as *mut u8).add(top)
     }
 
     #[inline(always)]
     unsafe fn dealloc(&self, block: *mut u8, layout: Layout) {
         match self.place(block) {
-            Some(place) => *self.top.get() = place,
+            Some(_) => self.give_back(),
             None => System.dealloc(block, layout),
         }
     }
@@ -63,6 +80,7 @@ unsafe impl GlobalAlloc for Stack {
             Some(_) => {
                 let next = self.alloc(Layout::from_size_align_unchecked(size, layout.align()));
                 std::ptr::copy_nonoverlapping(block, next, layout.size().min(size));
+                self.give_back();
                 next
             }
             None => System.realloc(block, layout, size),

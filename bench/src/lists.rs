@@ -114,6 +114,18 @@ pub fn kinds(channels: u32) -> Vec<Kind> {
         kind("match write", &[], vec![], round(n, MATCH_WRITE, |k| word(k) % 1024)),
         kind("background sample", &[], vec![], round(n, SAMPLE, |k| k / n % 2)),
         kind("status read", &[], vec![], round(n, STATUS_READ, |_| 0)),
+        kind(
+            "register read, status",
+            &[],
+            vec![],
+            (0..CALLS).map(|k| item(REGISTER_READ, 0, 0x0810 + 0x10 * (k % n), 0)).collect(),
+        ),
+        kind(
+            "register write, trigger of twelve",
+            &[&transmitter],
+            vec![],
+            (0..CALLS).map(|_| item(REGISTER_WRITE, 0, 0x1000, 0xFFF)).collect(),
+        ),
         kind("latch clear", &[], vec![], round(n, LATCH_CLEAR, |_| 127)),
         kind("pending read", &[], vec![], round(n, PENDING_READ, |_| 0)),
         kind("fate counts read", &[], vec![], round(n, COUNTS_READ, |_| 0)),

@@ -1,4 +1,4 @@
-//! The calls by name, as the items `op channel a b` give them.
+//! The calls by name, as the items `op channel a b` give them; the two accesses to registers among them.
 
 use crate::layout::SETTINGS;
 use crate::ops::*;
@@ -65,6 +65,8 @@ pub enum Call {
     ReadReceiveLevel,
     ReadTransmitLevel,
     ReadAsync,
+    ReadRegister { address: u32 },
+    WriteRegister { address: u32, value: u32 },
 }
 
 pub const SETTING_NAMES: [&str; SETTINGS] = [
@@ -127,6 +129,8 @@ impl Call {
             RECEIVE_LEVEL_READ => Call::ReadReceiveLevel,
             TRANSMIT_LEVEL_READ => Call::ReadTransmitLevel,
             ASYNC_READ => Call::ReadAsync,
+            REGISTER_READ => Call::ReadRegister { address: a },
+            REGISTER_WRITE => Call::WriteRegister { address: a, value: b },
             _ => return None,
         })
     }
@@ -147,7 +151,9 @@ impl Call {
             | Call::ReadLevelMask
             | Call::ReadPending
             | Call::ReadReceiveLevel
-            | Call::ReadTransmitLevel => 1,
+            | Call::ReadTransmitLevel
+            | Call::ReadRegister { .. }
+            | Call::WriteRegister { .. } => 1,
             Call::ReadAsync => 2,
             Call::ReadFifo | Call::ReadMailbox { .. } => 3,
             Call::Step => 4,
@@ -216,6 +222,8 @@ pub fn kind(op: u32) -> String {
         RECEIVE_LEVEL_READ => "receive level read",
         TRANSMIT_LEVEL_READ => "transmit level read",
         ASYNC_READ => "async read",
+        REGISTER_READ => "register read",
+        REGISTER_WRITE => "register write",
         _ => "no call",
     };
     name.to_string()

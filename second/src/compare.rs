@@ -2,10 +2,12 @@
 
 use std::collections::BTreeMap;
 
-use crate::calls::{kind, Call, Item, NO_CALL};
+use crate::calls::{self, Call, Item, NO_CALL};
 use crate::engine::Engine;
 use crate::ledger::Ledger;
 use crate::lists::{lists, Event, List};
+use crate::ops::{REGISTER_READ, REGISTER_WRITE};
+use crate::registers::Register;
 use crate::spacing::Spacing;
 use crate::writes::stray_write;
 
@@ -22,7 +24,9 @@ pub struct Tally {
     pub in_history: u64,
     /// Calls and accepted calls, by op.
     pub kinds: BTreeMap<u32, (u64, u64)>,
-    /// Answers by number: 0, 1 to 7, and 42.
+    /// Accesses and accepted accesses, by way and register.
+    pub accesses: BTreeMap<String, (u64, u64)>,
+    /// Answers by number: 0, 1 to 7, 30 to 32, and 42.
     pub numbers: BTreeMap<u32, u64>,
     /// Accepted arrivals by outcome, and accepted steps by form.
     pub outcomes: BTreeMap<u32, u64>,
@@ -38,6 +42,12 @@ impl Tally {
         let kind = self.kinds.entry(op).or_default();
         kind.0 += 1;
         kind.1 += u64::from(accepted);
+        if [REGISTER_READ, REGISTER_WRITE].contains(&op) {
+            let register = Register::at(item.a).map_or("none", Register::name);
+            let access = self.accesses.entry(format!("{}, {register}", calls::kind(op))).or_default();
+            access.0 += 1;
+            access.1 += u64::from(accepted);
+        }
         *self.numbers.entry(answer[0]).or_default() += 1;
         if accepted && item.op == 128 {
             *self.outcomes.entry(answer[1]).or_default() += 1;
@@ -50,9 +60,12 @@ impl Tally {
     pub fn print(&self) {
         println!("{:<32}{:>10}{:>10}", "kind of call", "calls", "accepted");
         for (&op, (calls, accepted)) in &self.kinds {
-            println!("{:<32}{calls:>10}{accepted:>10}", kind(op));
+            println!("{:<32}{calls:>10}{accepted:>10}", calls::kind(op));
         }
         println!("{:<32}{:>10}{:>10}", "all", self.calls, self.accepted);
+        for (access, (calls, accepted)) in &self.accesses {
+            println!("{access:<32}{calls:>10}{accepted:>10}");
+        }
         println!("answers by number: {:?}", self.numbers);
         println!("arrivals by outcome: {:?}", self.outcomes);
         println!("steps by form: {:?}", self.forms);
@@ -103,7 +116,7 @@ pub fn run(list: &List, first: &mut dyn Engine, second: &mut dyn Engine, tally: 
                 }
                 let fault = if answer != other {
                     Some(format!("answers: first {answer:?}, second {other:?}"))
-                } else if let Some(stray) = stray_write(&before, &mem, item, other[0] != 0) {
+                } else if let Some(stray) = stray_write(&before, &mem, item, &other) {
                     Some(format!("second: {stray}"))
                 } else if let Some(difference) = first.difference(&own, &mem) {
                     Some(difference)

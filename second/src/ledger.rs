@@ -5,6 +5,7 @@
 use crate::calls::{Call, Item};
 use crate::layout::*;
 use crate::model::Model;
+use crate::registers::accepted_calls;
 
 #[derive(Clone, Copy, PartialEq, Eq, Debug)]
 pub enum Fate {
@@ -115,10 +116,21 @@ impl Ledger {
     /// Enters a call with its answer; an error where the answer cannot follow from the history.
     pub fn enter(&mut self, item: Item, answer: &[u32]) -> Result<(), String> {
         self.place += 1;
-        let place = self.place;
         // Any refused call, and an item that is no call: nothing.
-        let (Some(call), Some(0)) = (Call::of(item), answer.first()) else {
+        if answer[0] != 0 {
             return Ok(());
+        }
+        // Of what accesses to registers are, no call's values matter to a fate.
+        for call in accepted_calls(item, answer) {
+            self.enter_call(call, if call == item { &answer[1..] } else { &[] })?;
+        }
+        Ok(())
+    }
+
+    fn enter_call(&mut self, item: Item, values: &[u32]) -> Result<(), String> {
+        let place = self.place;
+        let Some(call) = Call::of(item) else {
+            return Err("an item that is no call is accepted".to_string());
         };
         match call {
             Call::PowerUp { count } => {
@@ -143,7 +155,7 @@ impl Ledger {
                 let book = (self.channels)
                     .get_mut((item.channel as usize).wrapping_sub(1))
                     .ok_or("an accepted call on a channel that is not there")?;
-                book.enter(place, call, stamp, &answer[1..])?;
+                book.enter(place, call, stamp, values)?;
             }
         }
         Ok(())

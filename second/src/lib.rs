@@ -25,6 +25,8 @@ pub mod proved_readings;
 pub mod random_captures;
 pub mod reading;
 pub mod readings;
+mod register_words;
+pub mod registers;
 pub mod spacing;
 pub mod words;
 pub mod writes;

@@ -8,10 +8,12 @@
 
 mod floods;
 mod no_gap;
+mod registers;
 
 use crate::calls::Item;
 use crate::layout::*;
 use crate::ops::*;
+use crate::registers::Register;
 
 #[derive(Clone, Copy, PartialEq, Eq, Debug)]
 pub enum Event {
@@ -225,7 +227,7 @@ pub fn list(seed: u64, calls: usize) -> List {
     }
     while writer.events.len() < calls {
         match kind {
-            Memory::Damaged if writer.dice.chance(16) => writer.damage(),
+            Memory::Damaged if writer.dice.chance(20) => writer.damage(),
             Memory::Short if writer.dice.chance(10) => writer.stored_count_or_power_up(),
             Memory::Lent if writer.dice.chance(6) => writer.lend(),
             Memory::Unpowered if writer.dice.chance(1) => {
@@ -308,6 +310,10 @@ impl Writer {
             if matches!(self.theme, Theme::Schedule | Theme::Mixed) {
                 self.schedule(channel);
             }
+        }
+        // Few lists have many channels.
+        if self.count > 3 {
+            self.every_channel();
         }
     }
 
@@ -501,6 +507,7 @@ impl Writer {
                 let result = self.argument(1);
                 self.loose(INITIATED_TEST, channel, result);
             }
+            (_, 59..=80) => self.access(),
             (0, _) => self.receive(channel),
             (1, _) => self.transmit_fifo(channel),
             (2, _) => self.scheduled(channel),
@@ -520,13 +527,16 @@ impl Writer {
             (0, 55..=84) => self.floods(channel),
             (0, _) => self.stamps(channel),
             (1, 2..=4) => self.full_transmit_fifo(channel),
+            (1, 5..=24) => self.masks(channel),
             (1, _) => self.states(channel),
-            (2, 2..=31) => self.gaps(channel),
-            (2, 32..=69) => self.last_command(channel),
-            (2, 70..=77) => self.interrupts(channel),
-            (2, 78..=81) => self.ends_of_rams(channel),
+            (2, 2..=29) => self.gaps(channel),
+            (2, 30..=60) => self.last_command(channel),
+            (2, 61..=68) => self.interrupts(channel),
+            (2, 69..=72) => self.ends_of_rams(channel),
+            (2, 73..=78) => self.schedule_by_registers(channel),
             (2, _) => self.words_in_a_row(channel),
             (_, 2..=36) => self.latches(channel),
+            (_, 37..=44) => self.masks(channel),
             _ => self.samples(channel),
         }
         // Settings of a run do not last.
@@ -539,7 +549,7 @@ impl Writer {
 
     /// Any four words, most with an op of the table or beside it.
     fn anything(&mut self) {
-        let op = if self.dice.chance(80) { self.dice.below(160) } else { self.dice.word() };
+        let op = if self.dice.chance(80) { self.dice.below(REGISTER_WRITE + 3) } else { self.dice.word() };
         let (channel, a, b) = (self.channel(), self.dice.one_of(&EDGES), self.dice.one_of(&EDGES));
         self.call(op, channel, a, b);
     }
@@ -860,9 +870,9 @@ impl Writer {
     /// The schedule's last command, or the last one before the ninth bit, reached by a jump; triggers and steps behind it show where it went.
     fn last_command(&mut self, channel: u32) {
         self.scheduled_from_0(channel);
-        let last = self.dice.one_of(&[LAST_COMMAND, LAST_COMMAND, NINTH_BIT - 1]);
+        let last = if self.dice.chance(55) { LAST_COMMAND } else { NINTH_BIT - 1 };
         self.call(SCHEDULE_WRITE, channel, 0, JUMP | last);
-        for _ in 0..6 {
+        for _ in 0..8 {
             let command = match self.dice.below(11) {
                 0 => 0x1000 | self.dice.below(8),
                 1 => 0x2000 | self.dice.below(8),
@@ -908,9 +918,9 @@ impl Writer {
         self.loose(TRIGGER, channel, 0);
         for _ in 0..4 {
             self.loose(LATCH_CLEAR, channel, 127);
-            for op in [STEP, STATUS_READ, STEP] {
-                self.loose(op, channel, 0);
-            }
+            self.loose(STEP, channel, 0);
+            self.status_read(channel);
+            self.loose(STEP, channel, 0);
         }
     }
 
@@ -938,9 +948,10 @@ impl Writer {
                 self.loose(WRITE_ALMOST_EMPTY, channel, 0);
             }
             self.arrivals(channel, 2);
-            for op in [STEP, STEP, STATUS_READ] {
+            for op in [STEP, STEP] {
                 self.loose(op, channel, 0);
             }
+            self.status_read(channel);
             let mask = self.dice.one_of(&[1, 2, 4, 8, 127]);
             self.loose(LATCH_CLEAR, channel, mask);
             self.loose(PENDING_READ, channel, 0);
@@ -1112,7 +1123,7 @@ impl Writer {
     fn damage(&mut self) {
         let channel = 1 + self.dice.below(self.count);
         let first = block(channel);
-        match self.dice.below(21) {
+        match self.dice.below(22) {
             // Within its range: states that a list alone reaches late.
             0..=2 => {
                 let word = self.dice.below(RANGED as u32);
@@ -1150,9 +1161,11 @@ impl Writer {
                 let mode = self.dice.below(2);
                 self.overwrite(first + TRANSMIT_MODE, mode);
                 self.overwrite(first + ASYNC_MARK, 1);
+                self.register_read(Register::Async { channel });
                 for op in [ASYNC_WRITE, ASYNC_READ, STEP, ASYNC_WRITE] {
                     self.loose(op, channel, 0);
                 }
+                self.register_write(Register::Async { channel }, 0);
             }
             // A receive level at or above the size; repaired after some calls.
             10 => {
@@ -1170,6 +1183,7 @@ impl Writer {
             12 | 13 => self.list_of_others(channel),
             14..=18 => self.outside_its_range(channel),
             19 => self.layout_of_others(channel),
+            20 => self.latches_of_others(channel),
             _ => {
                 let (word, value) = (self.dice.below(self.memory.len() as u32), self.dice.word());
                 self.overwrite(word as usize, value);
@@ -1206,6 +1220,13 @@ impl Writer {
             self.refusable_call(channel);
             self.single_call();
         }
+        for _ in 0..2 {
+            self.access_to(channel);
+            self.masked_write();
+        }
+        if self.dice.chance(20) {
+            self.wrong_way(channel);
+        }
         let sound = match place {
             COUNT => self.count,
             THRESHOLD => 5,
@@ -1228,6 +1249,7 @@ impl Writer {
         for _ in 0..2 {
             self.refusable_call(channel);
             self.single_call();
+            self.masked_write();
         }
         if self.dice.chance(50) {
             self.overwrite(LAYOUT, LAYOUT_NUMBER);
@@ -1322,6 +1344,13 @@ impl Writer {
         self.events.push(Event::Lend { words: words.min(whole) });
         for _ in 0..1 + self.dice.below(5) {
             self.single_call();
+        }
+        if self.dice.chance(40) {
+            self.access();
+            self.masked_write();
+        }
+        if self.dice.chance(15) {
+            self.wrong_way(1);
         }
         self.events.push(Event::Lend { words: whole });
     }

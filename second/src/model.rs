@@ -50,7 +50,7 @@ pub struct Settings {
     pub rate: u32,
 }
 
-/// An answer's refusal, 1 to 7.
+/// An answer's refusal: 1 to 7, and of an access to a register also 30 to 32.
 pub type Refusal = u32;
 const SHORT: Refusal = 1;
 const UNSOUND: Refusal = 2;
@@ -741,16 +741,36 @@ impl Model {
             return vec![NO_CALL];
         };
         let done = match call {
-            Call::PowerUp { count } => self.power_up(lent, count),
-            _ if lent < need(0) => Err(SHORT),
-            _ if (1..=CHANNELS).contains(&self.stored_count) && lent < need(self.stored_count) => Err(SHORT),
-            _ if call.is_module_wide() => self.on_module(call),
-            _ => self.on_channel(item.channel, call),
+            Call::ReadRegister { address } => self.read_register(lent, address),
+            Call::WriteRegister { address, value } => self.write_register(lent, address, value),
+            _ => self.call(lent, item.channel, call),
         };
         match done {
             Ok(values) => [vec![0], values].concat(),
             Err(refusal) => [vec![refusal], vec![0; call.values()]].concat(),
         }
+    }
+
+    /// A call that is no access to a register.
+    pub(crate) fn call(&mut self, lent: usize, channel: u32, call: Call) -> Result<Vec<u32>, Refusal> {
+        if let Call::PowerUp { count } = call {
+            return self.power_up(lent, count);
+        }
+        self.sound_part(lent)?;
+        if call.is_module_wide() {
+            self.on_module(call)
+        } else {
+            self.on_channel(channel, call)
+        }
+    }
+
+    /// Refused for short memory, and then for an unsound module part.
+    pub(crate) fn sound_part(&self, lent: usize) -> Result<(), Refusal> {
+        let stored = if (1..=CHANNELS).contains(&self.stored_count) { self.stored_count } else { 0 };
+        if lent < need(stored) {
+            return Err(SHORT);
+        }
+        self.part.is_some().then_some(()).ok_or(UNSOUND)
     }
 
     fn power_up(&mut self, lent: usize, count: u32) -> Result<Vec<u32>, Refusal> {

@@ -59,3 +59,6 @@ pub const COUNTS_READ: u32 = 153;
 pub const RECEIVE_LEVEL_READ: u32 = 154;
 pub const TRANSMIT_LEVEL_READ: u32 = 155;
 pub const ASYNC_READ: u32 = 156;
+
+pub const REGISTER_READ: u32 = 160;
+pub const REGISTER_WRITE: u32 = 161;

@@ -5,6 +5,7 @@
 
 use crate::calls::{Call, Item};
 use crate::layout::{TRANSMITTER, TRANSMIT_MODE};
+use crate::registers::accepted_calls;
 
 /// The least null time between two words.
 const LEAST: u32 = 4;
@@ -72,8 +73,18 @@ pub struct Spacing {
 impl Spacing {
     /// Enters a call with its answer; an error where a step puts a word too close to the last, or farther away than it has to be.
     pub fn enter(&mut self, item: Item, answer: &[u32]) -> Result<(), String> {
-        let (Some(call), Some(0)) = (Call::of(item), answer.first()) else {
+        if answer[0] != 0 {
             return Ok(());
+        }
+        for call in accepted_calls(item, answer) {
+            self.enter_call(call, &answer[1..])?;
+        }
+        Ok(())
+    }
+
+    fn enter_call(&mut self, item: Item, values: &[u32]) -> Result<(), String> {
+        let Some(call) = Call::of(item) else {
+            return Err("an item that is no call is accepted".to_string());
         };
         match call {
             Call::PowerUp { count } => self.lines = vec![Line::default(); count as usize],
@@ -82,7 +93,7 @@ impl Spacing {
             _ => {
                 let line = self.lines.get_mut((item.channel as usize).wrapping_sub(1)).ok_or("no such channel")?;
                 match call {
-                    Call::Step => line.step(&answer[1..])?,
+                    Call::Step => line.step(values)?,
                     Call::WriteSetting { setting, value } => line.write(setting as usize, value),
                     Call::InitiatedTest { .. } => line.null = None,
                     _ => {}

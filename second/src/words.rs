@@ -5,6 +5,7 @@
 
 use crate::layout::*;
 use crate::ops::*;
+use crate::register_words::access;
 
 /// Factory values of the settings.
 const FACTORY: [u32; SETTINGS] = [0, 0, 1, 0, 0, 0, 0, 0, 255, 128, 32, 4];
@@ -37,6 +38,7 @@ fn values_of(op: u32) -> Option<usize> {
         STEP => Some(4),
         COUNTS_READ => Some(7),
         ASYNC_READ => Some(2),
+        REGISTER_READ | REGISTER_WRITE => Some(1),
         MATCH_WRITE
         | FIFO_WRITE..=STOP
         | SCHEDULE_WRITE
@@ -54,6 +56,10 @@ pub fn perform(mem: &mut [u32], op: u32, channel: u32, a: u32, b: u32) -> Vec<u3
     let Some(values) = values_of(op) else {
         return vec![42];
     };
+    // The channel word is ignored.
+    if op == REGISTER_READ || op == REGISTER_WRITE {
+        return access(mem, op, a, b);
+    }
     let refusal = refusal(mem, op, channel, a, b);
     if refusal != 0 {
         let mut answer = vec![0; 1 + values];
@@ -85,19 +91,11 @@ fn refusal(mem: &[u32], op: u32, channel: u32, a: u32, b: u32) -> u32 {
             0
         };
     }
-    if mem.len() < MODULE_WORDS {
-        return 1;
+    let refusal = part_refusal(mem);
+    if refusal != 0 {
+        return refusal;
     }
     let count = mem[COUNT];
-    if count < 1 || count > CHANNELS {
-        return 2;
-    }
-    if mem.len() < need(count) {
-        return 1;
-    }
-    if !part_is_sound(mem) {
-        return 2;
-    }
     if op < 32 {
         // Module-wide: any channel counts for 2.
         if (1..=count).any(|c| !block_is_sound(&mem[block(c)..][..BLOCK_WORDS])) {
@@ -117,6 +115,25 @@ fn refusal(mem: &[u32], op: u32, channel: u32, a: u32, b: u32) -> u32 {
         return 4;
     }
     refusal_by_setting(of_channel, op, a)
+}
+
+/// 1 or 2 for the memory and the module part alone, or 0.
+pub(crate) fn part_refusal(mem: &[u32]) -> u32 {
+    if mem.len() < MODULE_WORDS {
+        return 1;
+    }
+    let count = mem[COUNT];
+    if count < 1 || count > CHANNELS {
+        return 2;
+    }
+    if mem.len() < need(count) {
+        return 1;
+    }
+    if part_is_sound(mem) {
+        0
+    } else {
+        2
+    }
 }
 
 fn part_is_sound(mem: &[u32]) -> bool {

@@ -2,15 +2,18 @@
 
 use crate::calls::Item;
 use crate::layout::*;
+use crate::registers::accepted_calls;
 
-/// The first word that the call changed and must not; none where all is well.
-pub fn stray_write(before: &[u32], after: &[u32], item: Item, refused: bool) -> Option<String> {
+/// The first word that the call changed and must not; none where all is well. An access may write what its accepted calls may.
+pub fn stray_write(before: &[u32], after: &[u32], item: Item, answer: &[u32]) -> Option<String> {
+    let refused = answer[0] != 0;
+    let calls = if refused { vec![] } else { accepted_calls(item, answer) };
     let mut place = 0;
     // Whole runs first: most words never change.
     for (old, new) in before.chunks(512).zip(after.chunks(512)) {
         if old != new {
             for k in 0..old.len() {
-                if old[k] != new[k] && (refused || !may_write(before, place + k, item)) {
+                if old[k] != new[k] && !calls.iter().any(|&call| may_write(before, place + k, call)) {
                     return Some(format!(
                         "word {} changed from {:#x} to {:#x}{}",
                         place + k,

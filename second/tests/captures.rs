@@ -362,10 +362,13 @@ fn show_writes_a_line_for_each_record_and_one_for_the_end() {
 
 #[test]
 fn make_records_accepted_arrivals_with_the_stamp_of_the_module() {
-    let items: [[u32; 4]; 9] = [
+    let items: [[u32; 4]; 11] = [
         [128, 1, 1, 0],
         [1, 0, 2, 0],
         [32, 1, 1, 0],
+        // Accesses to registers are performed and not recorded.
+        [160, 1, 0x0810, 0],
+        [161, 1, 0x1008, 3],
         [3, 0, 5, 0],
         [128, 1, 0x123, 0],
         // The receiver of channel 2 is off: ignored, and recorded too.

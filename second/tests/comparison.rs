@@ -14,7 +14,7 @@ fn model_and_words_agree() {
     assert!(difference.is_none(), "{difference:?}");
     assert!(tally.accepted * 2 > tally.calls);
     // Every refusal, outcome and form comes up.
-    assert_eq!(tally.numbers.keys().copied().collect::<Vec<_>>(), [0, 1, 2, 3, 4, 5, 6, 7, 42]);
+    assert_eq!(tally.numbers.keys().copied().collect::<Vec<_>>(), [0, 1, 2, 3, 4, 5, 6, 7, 30, 31, 32, 42]);
     assert_eq!(tally.outcomes.len(), 6);
     assert_eq!(tally.forms.len(), 7);
 }

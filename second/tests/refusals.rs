@@ -5,7 +5,7 @@ use bench::*;
 use second::layout::*;
 use second::words;
 
-/// Every op that is a call, but for power-up.
+/// Every op that is a call, but for power-up and the accesses to registers.
 fn ops() -> Vec<u32> {
     (2..=9).chain(32..=43).chain(64..=75).chain(128..=156).collect()
 }
@@ -14,7 +14,7 @@ fn ops() -> Vec<u32> {
 fn an_item_that_is_no_call_is_42_alone() {
     let mut bench = Bench::new(1);
     let before = bench.mem.clone();
-    for op in [0, 10, 11, 31, 44, 63, 76, 127, 157, 0xFFFF_FFFF] {
+    for op in [0, 10, 11, 31, 44, 63, 76, 127, 157, 159, 162, 0xFFFF_FFFF] {
         assert_eq!(bench.call(op, 1, 0, 0), [42]);
         assert_eq!(words::perform(&mut [], op, 1, 0, 0), [42]);
     }

@@ -38,6 +38,25 @@ fn one_line_for_each_item() {
 }
 
 #[test]
+fn accesses_to_registers_are_items_too() {
+    let items: [[u32; 4]; 9] = [
+        [160, 0, 0x111C, 0],
+        [160, 0, 0x111E, 0],
+        [1, 0, 12, 0],
+        [160, 99, 0x1C1C, 7],
+        [161, 99, 0x1C1C, 40],
+        [64 + 11, 12, 0, 0],
+        [161, 0, 0x1000, 0xFFFF_F801],
+        [161, 0, 0x0810, 1],
+        [161, 0, 0x8_0800, 1],
+    ];
+    let bytes: Vec<u8> = items.iter().flatten().flat_map(|word| word.to_le_bytes()).collect();
+    let (lines, status) = second(&["replay"], &bytes);
+    assert_eq!(lines, "2 0\n30 0\n0\n0 4\n0 0\n0 40\n0 2049\n32 0\n31 0\n");
+    assert_eq!(status, Some(0));
+}
+
+#[test]
 fn compare_exits_with_0_where_nothing_differs() {
     let (report, status) = second(&["compare", "--calls", "2000", "--seed", "3"], &[]);
     assert!(report.ends_with("no difference\n"));

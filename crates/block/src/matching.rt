@@ -6,7 +6,7 @@ ghost use Rattle.block.specs.Layout.{Whole, indexes};
 ghost use Rattle.block.specs.Matching.{matched, matchWritten, withBit};
 
 // The weight of bit `place` in a word.
-fn weight(place: u32) -> u32
+pub fn weight(place: u32) -> u32
     requires { ⌜ place < 32 ⌝ }
     ensures { λ r. ⌜ r ≡ 2 ^ place ⌝ }
 {

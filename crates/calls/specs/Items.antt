@@ -1,4 +1,4 @@
--- The calls of items `op channel a b`: the table of ops. A word that an op does not use is ignored.
+-- The accesses of items `op channel a b`: the table of ops. A word that an op does not use is ignored.
 use Prim.Native.Nat.{ℕ, _-_}
 use mathlib.Core.Bool.{cond}
 use lib.Dec.{eqb, ltb}
@@ -22,6 +22,7 @@ use Rattle.channel_calls.specs.declared.calls.ChannelCall.the-variants.{Setting
 use Rattle.wide.specs.declared.calls.WideCall.{WideCall}
 use Rattle.wide.specs.declared.calls.WideCall.the-variants.{AdvanceStamp, ZeroStamp, ReadStamp, WriteResolution, ReadResolution, WriteThreshold, ReadThreshold}
 use Rattle.module.specs.declared.calls.Call.the-variants.{PowerUp, Reset, Wide, On}
+use Rattle.registers.specs.declared.accesses.Access.the-variants.{Direct, ReadRegister, WriteRegister}
 use Rattle.calls.specs.declared.items.Item.{Item}
 use Rattle.calls.specs.declared.items.Item.the-variants.{NoCall, Asked}
 
@@ -54,9 +55,9 @@ settingOf s =
 unfoldable pub settingItem : ℕ → ℕ → ℕ → Item
 settingItem op ch a =
     cond (ltb op 32) NoCall
-    (cond (ltb op 44) (Asked (On ch (Settings (WriteSetting (settingOf (op - 32)) a))))
+    (cond (ltb op 44) (Asked (Direct (On ch (Settings (WriteSetting (settingOf (op - 32)) a)))))
     (cond (ltb op 64) NoCall
-    (cond (ltb op 76) (Asked (On ch (Settings (ReadSetting (settingOf (op - 64)))))) NoCall)))
+    (cond (ltb op 76) (Asked (Direct (On ch (Settings (ReadSetting (settingOf (op - 64))))))) NoCall)))
 
 -- ops 128 to 130
 unfoldable pub receiveOf : ℕ → ℕ → ReceiveCall
@@ -110,12 +111,16 @@ channelOf op a b =
     (cond (ltb op 146) (Tests (testOf op a))
     (cond (ltb op 153) (Status (statusOf op a)) (Reads (readOf op)))))))
 
--- the call of an item: op 1 is the power-up, op 2 the module reset; an op that is not in the table is no call
+-- ops above 156: 160 reads the register at an address, 161 writes it
+unfoldable pub registerItem : ℕ → ℕ → ℕ → Item
+registerItem op a b = cond (eqb op 160) (Asked (ReadRegister a)) (cond (eqb op 161) (Asked (WriteRegister a b)) NoCall)
+
+-- the access of an item: op 1 is the power-up, op 2 the module reset; an op that is not in the table is no call
 unfoldable pub decoded : ℕ → ℕ → ℕ → ℕ → Item
 decoded op ch a b =
     cond (ltb op 1) NoCall
-    (cond (eqb op 1) (Asked (PowerUp a))
-    (cond (eqb op 2) (Asked Reset)
-    (cond (ltb op 10) (Asked (Wide (wideOf op a)))
+    (cond (eqb op 1) (Asked (Direct (PowerUp a)))
+    (cond (eqb op 2) (Asked (Direct Reset))
+    (cond (ltb op 10) (Asked (Direct (Wide (wideOf op a))))
     (cond (ltb op 128) (settingItem op ch a)
-    (cond (ltb op 157) (Asked (On ch (channelOf op a b))) NoCall)))))
+    (cond (ltb op 157) (Asked (Direct (On ch (channelOf op a b)))) (registerItem op a b))))))

@@ -1,16 +1,16 @@
 -- An item performed on a module's memory: the numbers that it lists and what it leaves.
 use Prim.Native.Nat.{ℕ}
 use mathlib.Core.List.{List, [], _∷_}
-use Rattle.module.specs.Perform.{answer, after, numbers}
+use Rattle.registers.specs.Access.{accessAnswer, accessAfter, accessNumbers}
 use Rattle.calls.specs.declared.items.Item.{Item}
 use Rattle.calls.specs.declared.items.Item.the-variants.{NoCall, Asked}
 
 -- 42 for an item that is no call
 abbrev pub itemNumbers : Item → List ℕ → List ℕ
 itemNumbers NoCall m = 42 ∷ []
-itemNumbers (Asked k) m = numbers k (answer k m)
+itemNumbers (Asked x) m = accessNumbers x (accessAnswer x m)
 
 -- an item that is no call changes nothing
 abbrev pub itemAfter : Item → List ℕ → List ℕ
 itemAfter NoCall m = m
-itemAfter (Asked k) m = after k m
+itemAfter (Asked x) m = accessAfter x m

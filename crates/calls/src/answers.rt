@@ -1,10 +1,10 @@
 // An answer as a list of numbers: the answer's number, then its values.
 use channel_calls::calls::Answer;
-use module::calls::Call;
 use receive::Arrival;
+use registers::accesses::Access;
 ghost use mathlib.Core.Path.{_≡_};
 ghost use Rattle.receive.specs.Arrival.{outcome};
-ghost use Rattle.module.specs.Perform.{numbers};
+ghost use Rattle.registers.specs.Access.{accessNumbers};
 ghost use Rattle.calls.specs.Listed.{Lists};
 
 // The numbers in the first `count` words, and zeros behind them.
@@ -27,9 +27,9 @@ pub fn outcome(arrival: Arrival) -> u32
     }
 }
 
-// The numbers of a call's answer. A refusal has its number and as many zeros as the call has values.
-pub fn numbers_of(call: Call, answer: Answer) -> Numbers
-    ensures { λ r. ⌜ Lists r (numbers call answer) ⌝ }
+// The numbers of an access's answer. A refusal has its number and as many zeros as the access has values.
+pub fn numbers_of(access: Access, answer: Answer) -> Numbers
+    ensures { λ r. ⌜ Lists r (accessNumbers access answer) ⌝ }
 {
     match answer {
         Answer::Done => Numbers {
@@ -37,7 +37,7 @@ pub fn numbers_of(call: Call, answer: Answer) -> Numbers
             words: [0, 0, 0, 0, 0, 0, 0, 0],
         },
         Answer::Refused(number) => Numbers {
-            count: 1 + crate::values::values(call),
+            count: 1 + crate::values::values(access),
             words: [number, 0, 0, 0, 0, 0, 0, 0],
         },
         Answer::Value(x) => Numbers {

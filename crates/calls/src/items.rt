@@ -1,4 +1,4 @@
-// A call from the four words of an item: the op, the channel and two arguments. A word that an op does not use is ignored.
+// An access from the four words of an item: the op, the channel and two arguments. A word that an op does not use is ignored.
 use channel_calls::calls::ChannelCall;
 use channel_calls::calls::MemoryCall;
 use channel_calls::calls::ReadCall;
@@ -9,14 +9,15 @@ use channel_calls::calls::StatusCall;
 use channel_calls::calls::TestCall;
 use channel_calls::calls::TransmitCall;
 use module::calls::Call;
+use registers::accesses::Access;
 use wide::calls::WideCall;
 ghost use mathlib.Core.Path.{_≡_};
-ghost use Rattle.calls.specs.Items.{wideOf, switchOf, settingOf, settingItem, receiveOf, matchOf, transmitOf, ramOf, testOf, statusOf, readOf, channelOf, decoded};
+ghost use Rattle.calls.specs.Items.{wideOf, switchOf, settingOf, settingItem, receiveOf, matchOf, transmitOf, ramOf, testOf, statusOf, readOf, channelOf, registerItem, decoded};
 
-// An item: no call, or a call.
+// An item: no call, or an access.
 pub enum Item {
     NoCall,
-    Asked(Call),
+    Asked(Access),
 }
 
 // Ops 3 to 9.
@@ -100,20 +101,20 @@ fn setting_item(op: u32, channel: u32, a: u32) -> Item
     }
     if op < 44 {
         let written = setting_of(op - 32);
-        return Item::Asked(Call::On(
+        return Item::Asked(Access::Direct(Call::On(
             channel,
             ChannelCall::Settings(SettingCall::WriteSetting(written, a)),
-        ));
+        )));
     }
     if op < 64 {
         return Item::NoCall;
     }
     if op < 76 {
         let read = setting_of(op - 64);
-        return Item::Asked(Call::On(
+        return Item::Asked(Access::Direct(Call::On(
             channel,
             ChannelCall::Settings(SettingCall::ReadSetting(read)),
-        ));
+        )));
     }
     Item::NoCall
 }
@@ -258,7 +259,20 @@ fn channel_of(op: u32, a: u32, b: u32) -> ChannelCall
     ChannelCall::Reads(read_of(op))
 }
 
-// The call of an item: any four words.
+// Ops above 156: registers.
+fn register_item(op: u32, a: u32, b: u32) -> Item
+    ensures { λ r. ⌜ r ≡ registerItem op a b ⌝ }
+{
+    if op == 160 {
+        return Item::Asked(Access::ReadRegister(a));
+    }
+    if op == 161 {
+        return Item::Asked(Access::WriteRegister(a, b));
+    }
+    Item::NoCall
+}
+
+// The access of an item: any four words.
 pub fn decode(op: u32, channel: u32, a: u32, b: u32) -> Item
     ensures { λ r. ⌜ r ≡ decoded op channel a b ⌝ }
 {
@@ -266,19 +280,19 @@ pub fn decode(op: u32, channel: u32, a: u32, b: u32) -> Item
         return Item::NoCall;
     }
     if op == 1 {
-        return Item::Asked(Call::PowerUp(a));
+        return Item::Asked(Access::Direct(Call::PowerUp(a)));
     }
     if op == 2 {
-        return Item::Asked(Call::Reset);
+        return Item::Asked(Access::Direct(Call::Reset));
     }
     if op < 10 {
-        return Item::Asked(Call::Wide(wide_of(op, a)));
+        return Item::Asked(Access::Direct(Call::Wide(wide_of(op, a))));
     }
     if op < 128 {
         return setting_item(op, channel, a);
     }
     if op < 157 {
-        return Item::Asked(Call::On(channel, channel_of(op, a, b)));
+        return Item::Asked(Access::Direct(Call::On(channel, channel_of(op, a, b))));
     }
-    Item::NoCall
+    register_item(op, a, b)
 }

@@ -1,4 +1,4 @@
-// Calls as items of four words, and their answers as lists of numbers.
+// Accesses as items of four words, and their answers as lists of numbers.
 pub mod answers;
 pub mod items;
 pub mod perform;

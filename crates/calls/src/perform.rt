@@ -9,7 +9,7 @@ ghost use Rattle.calls.specs.Performed.{itemNumbers, itemAfter};
 // The answer's number of an item that is no call.
 pub const NO_CALL: u32 = 42;
 
-// Performs an item's call and lists its answer: any memory and any words. An item that is no call changes nothing.
+// Performs an item's access and lists its answer: any memory and any words. An item that is no call changes nothing.
 pub fn perform_item(mem: &mut [u32], op: u32, channel: u32, a: u32, b: u32) -> Numbers
     ensures { λ r. ⌜ (Lists r (itemNumbers (decoded op channel a b) (now (mem .entry)))) × (now (mem .exit) ≡ itemAfter (decoded op channel a b) (now (mem .entry))) ⌝ }
 {
@@ -19,9 +19,9 @@ pub fn perform_item(mem: &mut [u32], op: u32, channel: u32, a: u32, b: u32) -> N
             count: 1,
             words: [NO_CALL, 0, 0, 0, 0, 0, 0, 0],
         },
-        Item::Asked(call) => {
-            let answer = module::perform::perform(mem, call);
-            crate::answers::numbers_of(call, answer)
+        Item::Asked(access) => {
+            let answer = registers::perform::perform(mem, access);
+            crate::answers::numbers_of(access, answer)
         }
     }
 }

@@ -1,4 +1,4 @@
-// How many values a call answers beside the number.
+// How many values an access answers beside the number.
 use channel_calls::calls::ChannelCall;
 use channel_calls::calls::MemoryCall;
 use channel_calls::calls::ReadCall;
@@ -7,11 +7,13 @@ use channel_calls::calls::SettingCall;
 use channel_calls::calls::StatusCall;
 use channel_calls::calls::TransmitCall;
 use module::calls::Call;
+use registers::accesses::Access;
 use wide::calls::WideCall;
 ghost use mathlib.Core.Path.{_≡_};
 ghost use Prim.Native.Nat.{_≤_};
 ghost use Rattle.channel_calls.specs.Answers.{settingValues, memoryValues, statusValues, readValues, receiveValues, transmitValues, channelValues};
 ghost use Rattle.module.specs.Perform.{wideValues, values};
+ghost use Rattle.registers.specs.Access.{accessValues};
 
 fn setting_values(call: SettingCall) -> usize
     ensures { λ r. ⌜ (r ≡ settingValues call) × (r ≤ 7) ⌝ }
@@ -111,8 +113,7 @@ fn wide_values(call: WideCall) -> usize
     }
 }
 
-// At most seven.
-pub fn values(call: Call) -> usize
+fn call_values(call: Call) -> usize
     ensures { λ r. ⌜ (r ≡ values call) × (r ≤ 7) ⌝ }
 {
     match call {
@@ -120,5 +121,16 @@ pub fn values(call: Call) -> usize
         Call::Reset => 0,
         Call::Wide(k) => wide_values(k),
         Call::On(_, k) => channel_values(k),
+    }
+}
+
+// At most seven.
+pub fn values(access: Access) -> usize
+    ensures { λ r. ⌜ (r ≡ accessValues access) × (r ≤ 7) ⌝ }
+{
+    match access {
+        Access::Direct(call) => call_values(call),
+        Access::ReadRegister(_) => 1,
+        Access::WriteRegister(_, _) => 1,
     }
 }

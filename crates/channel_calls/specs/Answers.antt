@@ -1,7 +1,7 @@
 -- The number of each setting, and the paper's number and values for each answer.
 use Prim.Native.Nat.{ℕ}
 use mathlib.Core.List.{List, [], _∷_}
-use mathlib.Core.Bool.{cond}
+use mathlib.Core.Bool.{Bool, true, false, cond}
 use lib.Dec.{eqb}
 use lib.ListN.{replicate}
 use Rattle.block.specs.Layout.{receiver, transmitter, parity, matching, stamps, receiveMode, fifoKind, transmitMode, receiveSize, almostFull, almostEmpty, rate}
@@ -94,6 +94,16 @@ channelValues (Transmit k) = transmitValues k
 -- an accepted call's answer, or its refusal
 abbrev pub answerUnless : ℕ → Answer → Answer
 answerUnless refusal a = cond (eqb refusal 0) a (Refused refusal)
+
+abbrev pub isRefused : Answer → Bool
+isRefused Done = false
+isRefused (Refused r) = true
+isRefused (Value x) = false
+isRefused (Waiting m w) = false
+isRefused (Fates a r c o t s d) = false
+isRefused (Arrived a) = false
+isRefused (Entry s w t) = false
+isRefused (Stepped o) = false
 
 -- the paper's number of an answer, and its values: 0 is "done"; "A refusal .. and every other result is 0"
 abbrev pub numbersOf : ℕ → Answer → List ℕ

@@ -5,6 +5,7 @@ use mathlib.Core.Path.{_≡_, refl}
 use mathlib.Core.Bool.{false}
 use mathlib.Core.List.{List}
 use Rattle.channel.specs.Channel.{didAnswer, answerShown}
+use Rattle.channel_calls.specs.Answers.{isRefused}
 use Rattle.channel_calls.specs.declared.calls.SettingCall.the-variants.{WriteSetting, ReadSetting}
 use Rattle.channel_calls.specs.declared.calls.MemoryCall.the-variants.{WriteMatch, ReadMatch, WriteSchedule, ReadSchedule, WriteMessage, ReadMessage}
 use Rattle.channel_calls.specs.declared.calls.StatusCall.the-variants.{ReadStatus, ClearLatch, WriteEnable, ReadEnable, WriteLevelMask, ReadLevelMask, ReadPending}
@@ -16,7 +17,6 @@ use Rattle.channel_calls.specs.declared.calls.ChannelCall.the-variants.{Setting
 use Rattle.wide.specs.OnModule.{wideAnswer}
 use Rattle.wide.specs.declared.calls.WideCall.{WideCall}
 use Rattle.wide.specs.declared.calls.WideCall.the-variants.{AdvanceStamp, ZeroStamp, ReadStamp, WriteResolution, ReadResolution, WriteThreshold, ReadThreshold}
-use Rattle.fates.specs.History.{isRefused}
 
 -- the answer on block b, shown by the block c that is left
 pub block-accepted : (k : ChannelCall) (c b : List ℕ) → isRefused (answerShown k c (didAnswer k b)) ≡ false

@@ -23,7 +23,7 @@ use Rattle.receive.specs.declared.Arrival.the-variants.{Ignored, Filtered, Appe
 use Rattle.receive.proofs.Laws.{entry-shown}
 use Rattle.channel.specs.Groups.{entryAnswer}
 use Rattle.channel.specs.Told.{oldestOf, outcomeBy, ArrivalTold, WordTold, StepTold, Told}
-use Rattle.channel_calls.specs.Answers.{settingNumber, answerUnless}
+use Rattle.channel_calls.specs.Answers.{settingNumber, answerUnless, isRefused}
 use Rattle.channel_calls.specs.declared.calls.SettingCall.the-variants.{WriteSetting, ReadSetting}
 use Rattle.channel_calls.specs.declared.calls.TestCall.the-variants.{Sample, ResetTest, InitiateTest}
 use Rattle.channel_calls.specs.declared.calls.ReceiveCall.the-variants.{Arrive, ReadFifo, ReadMailbox}
@@ -35,11 +35,17 @@ use Rattle.channel_calls.specs.declared.calls.Answer.the-variants.{Done, Refuse
 use Rattle.channel_laws.specs.Effects.{byAnswer, arriveChange, readChange, outputChange, stepChange, nothing, effect}
 use Rattle.module.specs.declared.calls.Call.{Call}
 use Rattle.module.specs.declared.calls.Call.the-variants.{PowerUp, Reset, Wide, On}
+use Rattle.registers.specs.Turned.{writeTurned}
+use Rattle.registers.specs.declared.accesses.Access.{Access}
+use Rattle.registers.specs.declared.accesses.Access.the-variants.{Direct, ReadRegister, WriteRegister}
+use Rattle.registers.specs.declared.turned.Turned.{Turned}
+use Rattle.registers.specs.declared.turned.Turned.the-variants.{NotTurned, OneCall, EachNamed}
 use Rattle.module_laws.specs.Reduced.{reduced}
-use Rattle.fates.specs.History.{History, acceptedEffect, isRefused, effectBy, effectOn, history}
+use Rattle.fates.specs.History.{History, Telling, Silent, Performed, writeTells, tells, acceptedEffect, effectOn, history}
 use Rattle.fates.specs.Ledger.{Side, Receiving, Transmitting, fifoOf, changeOf, aside, Fits}
-use Rattle.fates.specs.Answers.{needOf, isOutside, CallTold, Answered}
+use Rattle.fates.specs.Answers.{needOf, isOutside, CallTold, CallAnswered, Answered}
 use Rattle.fates.specs.Theorem.{Every}
+use Rattle.fates.proofs.Registers.{AsWrite, write-is}
 use Rattle.fates.proofs.Ledger.{every-append}
 
 -- a fact of the change that an answer tells, by what the answer says
@@ -126,33 +132,29 @@ channel-readable stamp (Transmit Pause) a l = tt
 channel-readable stamp (Transmit Stop) a l = tt
 channel-readable stamp (Transmit Step) a l = tt
 
-effect-readable : (ch : ℕ) (c : Call) (a : Answer) (h : History) → AcceptsReadable (effectOn ch c a h .receive)
-effect-readable ch c a h = go (isRefused a) c
+effect-readable : (ch : ℕ) (t : Telling) (h : History) → AcceptsReadable (effectOn ch t h .receive)
+effect-readable ch Silent h = tt
+effect-readable ch (Performed (PowerUp n) a) h = tt
+effect-readable ch (Performed Reset a) h = tt
+effect-readable ch (Performed (Wide k) a) h = tt
+effect-readable ch (Performed (On ch′ k) a) h = go (eqb ch′ ch)
   where
-    on : (t : Bool) (k : ChannelCall) → AcceptsReadable (cond t (effect (h .part .stamp) k a (h .kept ch .settings)) (nothing (h .kept ch .settings)) .receive)
-    on true k = channel-readable (h .part .stamp) k a (h .kept ch .settings)
-    on false k = tt
-
-    go : (t : Bool) (c : Call) → AcceptsReadable (effectBy t ch c a h .receive)
-    go true c = tt
-    go false (PowerUp n) = tt
-    go false Reset = tt
-    go false (Wide k) = tt
-    go false (On ch′ k) = on (eqb ch′ ch) k
+    go : (t : Bool) → AcceptsReadable (cond t (effect (h .part .stamp) k a (h .kept ch .settings)) (nothing (h .kept ch .settings)) .receive)
+    go true = channel-readable (h .part .stamp) k a (h .kept ch .settings)
+    go false = tt
 
 -- every entry that a history holds
-readable : (es : List (Call × Answer)) (ch : ℕ) → Every Readable (history es .kept ch .receive .held)
+readable : (ts : List Telling) (ch : ℕ) → Every Readable (history ts .kept ch .receive .held)
 readable [] ch = tt
-readable (e ∷ before) ch =
-    readable-after (effectOn ch (e .0) (e .1) (history before) .receive) (history before .kept ch .receive)
-    (effect-readable ch (e .0) (e .1) (history before)) (readable before ch)
+readable (t ∷ before) ch =
+    readable-after (effectOn ch t (history before) .receive) (history before .kept ch .receive) (effect-readable ch t (history before)) (readable before ch)
 
 first-readable : (s : List (List ℕ)) → Every Readable s → 0 < length s → Readable (getD s 0 [])
 first-readable [] h l = absurd (omega arith)
 first-readable (x ∷ s) h l = h .0
 
 -- the oldest is shown as it is
-pub oldest-shown : (es : List (Call × Answer)) (ch : ℕ) → shown (oldestOf (history es .kept ch .receive)) ≡ oldestOf (history es .kept ch .receive)
+pub oldest-shown : (es : List Telling) (ch : ℕ) → shown (oldestOf (history es .kept ch .receive)) ≡ oldestOf (history es .kept ch .receive)
 oldest-shown es ch = go (history es .kept ch .receive .held) (readable es ch)
   where
     go : (s : List (List ℕ)) → Every Readable s → shown (getD s 0 []) ≡ getD s 0 []
@@ -232,10 +234,10 @@ module _ (h : Kept) (r : Every Readable (h .receive .held)) where
   channel-fits stamp (Transmit Stop) a n t = (tt, tt)
   channel-fits stamp (Transmit Step) a n t = (tt, step-fits a t)
 
--- ---- any call
+-- ---- any access
 
 -- an answer that is no refusal is told by the call
-accepted-told : (n : ℕ) (c : Call) (a : Answer) (h : History) → isRefused a ≡ false → Answered n c a h → CallTold c a h
+accepted-told : (n : ℕ) (c : Call) (a : Answer) (h : History) → isRefused a ≡ false → CallAnswered n c a h → CallTold c a h
 accepted-told n c a h ok t = go (ltb n (needOf c h)) (isOutside c h) t
   where
     go : (p q : Bool) → cond p (a ≡ Refused 1) (cond q (a ≡ Refused 3) (CallTold c a h)) → CallTold c a h
@@ -243,15 +245,19 @@ accepted-told n c a h ok t = go (ltb n (needOf c h)) (isOutside c h) t
     go false true e = absurd (true≢false (sym (ap isRefused e) ∙ ok))
     go false false e = e
 
-module _ (es : List (Call × Answer)) (a : Answer) where
+module _ (es : List Telling) where
   abbrev h : History
   h = history es
 
-  accepted-fits : (ch : ℕ) (c : Call) → isRefused a ≡ false → CallTold c a h → BothFit (h .kept ch) (readable es ch) (acceptedEffect ch c a h)
-  accepted-fits ch (PowerUp n) ok t = (tt, tt)
-  accepted-fits ch Reset ok t = (tt, tt)
-  accepted-fits ch (Wide k) ok t = (tt, tt)
-  accepted-fits ch (On ch′ k) ok t = go (eqb ch′ ch) refl
+  -- what a telling does to both FIFOs of channel ch
+  abbrev TellingFits : ℕ → Telling → Type 0
+  TellingFits ch t = BothFit (h .kept ch) (readable es ch) (effectOn ch t h)
+
+  accepted-fits : (a : Answer) (ch : ℕ) (c : Call) → isRefused a ≡ false → CallTold c a h → TellingFits ch (Performed c a)
+  accepted-fits a ch (PowerUp n) ok t = (tt, tt)
+  accepted-fits a ch Reset ok t = (tt, tt)
+  accepted-fits a ch (Wide k) ok t = (tt, tt)
+  accepted-fits a ch (On ch′ k) ok t = go (eqb ch′ ch) refl
     where
       go : (b : Bool) → eqb ch′ ch ≡ b
           → BothFit (h .kept ch) (readable es ch) (cond b (effect (h .part .stamp) k a (h .kept ch .settings)) (nothing (h .kept ch .settings)))
@@ -260,14 +266,37 @@ module _ (es : List (Call × Answer)) (a : Answer) where
           (subst (λ (x : ℕ). Told (reduced (h .kept x)) k a) (eqb-true ch′ ch p) (t .0))
       go false p = (tt, tt)
 
-  both-fit : (ch n : ℕ) (c : Call) → Answered n c a h → BothFit (h .kept ch) (readable es ch) (effectOn ch c a h)
-  both-fit ch n c t = go (isRefused a) refl
+  call-fits : (a : Answer) (ch n : ℕ) (c : Call) → CallAnswered n c a h → TellingFits ch (tells (Direct c) a)
+  call-fits a ch n c t = go (isRefused a) refl
     where
-      go : (b : Bool) → isRefused a ≡ b → BothFit (h .kept ch) (readable es ch) (effectBy b ch c a h)
+      go : (b : Bool) → isRefused a ≡ b → TellingFits ch (cond b Silent (Performed c a))
       go true p = (tt, tt)
-      go false p = accepted-fits ch c p (accepted-told n c a h p t)
+      go false p = accepted-fits a ch c p (accepted-told n c a h p t)
 
-pub fits : (es : List (Call × Answer)) (n : ℕ) (c : Call) (a : Answer) → Answered n c a (history es) → (side : Side) (ch : ℕ)
-    → Fits side (changeOf side (effectOn ch c a (history es))) (fifoOf side (history es .kept ch))
-fits es n c a t Receiving ch = both-fit es a ch n c t .0
-fits es n c a t Transmitting ch = both-fit es a ch n c t .1
+  -- a register write changes no FIFO
+  write-fits : (ch : ℕ) (t : Turned) → AsWrite t → TellingFits ch (writeTells t)
+  write-fits ch (NotTurned r) w = (tt, tt)
+  write-fits ch (OneCall ch′ k bits) w = go (eqb ch′ ch)
+    where
+      go : (b : Bool)
+          → BothFit (h .kept ch) (readable es ch) (cond b (effect (h .part .stamp) k Done (h .kept ch .settings)) (nothing (h .kept ch .settings)))
+      go true = (
+        subst (λ (c : Change). Fits Receiving c (h .kept ch .receive)) (sym (w .receive (h .part .stamp) Done (h .kept ch .settings))) tt,
+        subst (λ (c : Change). Fits Transmitting c (h .kept ch .transmit)) (sym (w .transmit (h .part .stamp) Done (h .kept ch .settings))) tt,
+      )
+      go false = (tt, tt)
+  write-fits ch (EachNamed c mask) w = (tt, tt)
+
+  both-fit : (a : Answer) (ch n : ℕ) (x : Access) → Answered n x a h → TellingFits ch (tells x a)
+  both-fit a ch n (Direct c) t = call-fits a ch n c t
+  both-fit a ch n (ReadRegister x) t = (tt, tt)
+  both-fit a ch n (WriteRegister x v) t = go (isRefused a)
+    where
+      go : (b : Bool) → TellingFits ch (cond b Silent (writeTells (writeTurned x v)))
+      go true = (tt, tt)
+      go false = write-fits ch (writeTurned x v) (write-is x v)
+
+pub fits : (es : List Telling) (n : ℕ) (x : Access) (a : Answer) → Answered n x a (history es) → (side : Side) (ch : ℕ)
+    → Fits side (changeOf side (effectOn ch (tells x a) (history es))) (fifoOf side (history es .kept ch))
+fits es n x a t Receiving ch = both-fit es a ch n x t .0
+fits es n x a t Transmitting ch = both-fit es a ch n x t .1

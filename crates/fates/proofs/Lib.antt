@@ -1,5 +1,8 @@
 pub mod Accepted
+pub mod Registers
 pub mod Steps
+pub mod Accesses
+pub mod Untouched
 pub mod Answers
 pub mod Ledger
 pub mod Places

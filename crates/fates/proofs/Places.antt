@@ -6,8 +6,7 @@ use mathlib.Core.List.{List, [], _∷_, _++_, map}
 use native.Mathlib.Omega.{arith}
 use lib.ListN.{length, take}
 use Rattle.block.specs.Fifos.{Change, Stays, Adds, Overwrites, Takes, Clears, Begins}
-use Rattle.channel_calls.specs.declared.calls.Answer.{Answer}
-use Rattle.module.specs.declared.calls.Call.{Call}
+use Rattle.fates.specs.History.{Telling}
 use Rattle.fates.specs.Ledger.{Side, Fate, TakenOut, Cleared, Overwritten, Accepted, Departed, Ledger, ledgerAfter, acceptedAfter, changeBehind, ledger, acceptedBy, numbered}
 use Rattle.fates.specs.Theorem.{Every}
 use Rattle.fates.specs.Beyond.{Ordered, GivesFate, GivenAt, Placed}
@@ -41,7 +40,7 @@ ordered-append : (R : ℕ → ℕ → Type 0) (s t : List ℕ) → Ordered R s �
 ordered-append R [] t p q h = q
 ordered-append R (x ∷ s) t p q h = (every-append (R x) s t (p .0) (h .0), ordered-append R s t (p .1) q (h .1))
 
--- ---- the entries that were accepted, by the first n calls and by one more
+-- ---- the entries that were accepted, by the first n accesses and by one more
 
 abbrev PlacesWithin : ℕ → List Accepted → Type 0
 PlacesWithin n xs = Every (λ x. x .place ≤ n) xs
@@ -75,7 +74,7 @@ ordered-after n (Takes e) xs h o = o
 ordered-after n Clears xs h o = o
 ordered-after n Begins xs h o = tt
 
--- ---- the fates, by the first n calls and by one more
+-- ---- the fates, by the first n accesses and by one more
 
 pub record InOrder (n : ℕ) (s : List ℕ) : Type 0 where
   within : Every (λ x. x ≤ n) s
@@ -121,42 +120,42 @@ order-after n (Takes e) l h = order-more n (TakenOut e) l (take 1 (l .held)) h
 order-after n Clears l h = order-more n Cleared l (take (length (l .held)) (l .held)) h
 order-after n Begins l h = record { within = tt; ordered = tt }
 
--- ---- a list of calls
+-- ---- a list of accesses
 
 module _ (side : Side) (ch : ℕ) where
   -- the ledger has the entries that were accepted, in number order
-  pub all-numbered : (es : List (Call × Answer)) → numbered (ledger side ch es) ≡ acceptedBy side ch es
+  pub all-numbered : (es : List Telling) → numbered (ledger side ch es) ≡ acceptedBy side ch es
   all-numbered [] = refl
   all-numbered (e ∷ before) =
       numbered-after _ (changeBehind side ch before e) (ledger side ch before)
       ∙ ap (acceptedAfter _ (changeBehind side ch before e)) (all-numbered before)
 
-  within : (es : List (Call × Answer)) → PlacesWithin (length es) (acceptedBy side ch es)
+  within : (es : List Telling) → PlacesWithin (length es) (acceptedBy side ch es)
   within [] = tt
   within (e ∷ before) = within-after (length before) (changeBehind side ch before e) (acceptedBy side ch before) (within before)
 
-  ordered : (es : List (Call × Answer)) → Ordered _<_ (map (λ (x : Accepted). x .place) (acceptedBy side ch es))
+  ordered : (es : List Telling) → Ordered _<_ (map (λ (x : Accepted). x .place) (acceptedBy side ch es))
   ordered [] = tt
   ordered (e ∷ before) = ordered-after (length before) (changeBehind side ch before e) (acceptedBy side ch before) (within before) (ordered before)
 
-  in-order : (es : List (Call × Answer)) → InOrder (length es) (map (λ (d : Departed). d .place) (ledger side ch es .departed))
+  in-order : (es : List Telling) → InOrder (length es) (map (λ (d : Departed). d .place) (ledger side ch es .departed))
   in-order [] = record { within = tt; ordered = tt }
   in-order (e ∷ before) = order-after (length before) (changeBehind side ch before e) (ledger side ch before) (in-order before)
 
-  -- one call more
-  later-list : (e : Call × Answer) (es : List (Call × Answer)) (d : Departed) → GivenAt side ch es d → GivenAt side ch (e ∷ es) d
+  -- one access more
+  later-list : (e : Telling) (es : List Telling) (d : Departed) → GivenAt side ch es d → GivenAt side ch (e ∷ es) d
   later-list e es d g =
       record {
         after = e ∷ g .after;
-        call = g .call;
+        telling = g .telling;
         before = g .before;
-        is = ap (λ (s : List (Call × Answer)). e ∷ s) (g .is);
+        is = ap (λ (s : List Telling). e ∷ s) (g .is);
         place = g .place;
         gives = g .gives;
         later = g .later;
       }
 
-  module _ (e : Call × Answer) (before : List (Call × Answer)) where
+  module _ (e : Telling) (before : List Telling) where
     abbrev l : Ledger
     l = ledger side ch before
 
@@ -165,13 +164,13 @@ module _ (side : Side) (ch : ℕ) where
         every-last (λ x. x .place ≤ length before) (map (λ (d : Departed). d .accepted) (l .departed)) (l .held)
         (subst (PlacesWithin (length before)) (sym (all-numbered before)) (within before))
 
-    -- the fates that this call gives
+    -- the fates that this access gives
     newly : (w : Fate) (n : ℕ) → GivesFate (changeBehind side ch before e) w
         → Every (GivenAt side ch (e ∷ before)) (map (fated (suc (length before)) w) (take n (l .held)))
     newly w n g =
         map-every (GivenAt side ch (e ∷ before)) (fated (suc (length before)) w) (take n (l .held))
         (every-weaker (λ x. x .place ≤ length before) (λ x. GivenAt side ch (e ∷ before) (fated (suc (length before)) w x))
-        (λ x p. record { after = []; call = e; before = before; is = refl; place = refl; gives = g; later = omega (arith, p) }) (take n (l .held))
+        (λ x p. record { after = []; telling = e; before = before; is = refl; place = refl; gives = g; later = omega (arith, p) }) (take n (l .held))
         (every-take (λ x. x .place ≤ length before) n (l .held) held-within))
 
     given-after : Every (GivenAt side ch before) (l .departed) → (c : Change) → changeBehind side ch before e ≡ c
@@ -193,11 +192,11 @@ module _ (side : Side) (ch : ℕ) where
         go Clears q = more Cleared (length (l .held)) (subst (λ (z : Change). GivesFate z Cleared) (sym q) refl)
         go Begins q = tt
 
-  given : (es : List (Call × Answer)) → Every (GivenAt side ch es) (ledger side ch es .departed)
+  given : (es : List Telling) → Every (GivenAt side ch es) (ledger side ch es .departed)
   given [] = tt
   given (e ∷ before) = given-after e before (given before) (changeBehind side ch before e) refl
 
-  pub placed : (es : List (Call × Answer)) → Placed side ch es
+  pub placed : (es : List Telling) → Placed side ch es
   placed es =
       record {
         accepted = subst (λ (xs : List Accepted). Ordered _<_ (map (λ (x : Accepted). x .place) xs)) (sym (all-numbered es)) (ordered es);

@@ -7,12 +7,13 @@ use mathlib.Core.List.{List, _++_}
 use native.Mathlib.Omega.{arith}
 use borrow.Author.Tests.{eqb-true, eqb-false, ltb-true, ltb-false}
 use lib.Dec.{eqb, ltb}
-use lib.ListN.{length, take, drop, set, take-append-drop}
+use lib.ListN.{length, set}
 use lib.Seq.{getD-set-same, getD-set-other}
 use Rattle.block.specs.Layout.{word}
 use Rattle.block.specs.Counts.{counted}
 use Rattle.block.specs.Kept.{Kept, keptOf, keptBy}
 use Rattle.channel.specs.Channel.{blockAnswer, blockAfter}
+use Rattle.channel_calls.specs.Answers.{isRefused}
 use Rattle.channel_calls.specs.declared.calls.Answer.{Answer}
 use Rattle.channel_calls.specs.declared.calls.Answer.the-variants.{Done, Refused}
 use Rattle.channel_calls.specs.declared.calls.ChannelCall.{ChannelCall}
@@ -31,6 +32,7 @@ use Rattle.module.specs.OnChannel.{onRefusal, givenOf, acceptedAfter}
 use Rattle.module.specs.Perform.{answer, after}
 use Rattle.module.specs.declared.calls.Call.{Call}
 use Rattle.module.specs.declared.calls.Call.the-variants.{PowerUp, Reset, Wide, On}
+use Rattle.registers.specs.declared.accesses.Access.the-variants.{Direct}
 use Rattle.module_laws.specs.Reduced.{reduced}
 use Rattle.module_laws.proofs.Rolls.{rolls}
 use Rattle.module_laws.proofs.OnChannel.{on-within, on-call, on-word, on-same, on-other, on-sane}
@@ -38,8 +40,7 @@ use Rattle.module_laws.proofs.OnModule.{wide-sane, wide-count, wide-word, wide-
 use Rattle.module_laws.proofs.Reset.{reset-sane, reset-word, reset-kept}
 use Rattle.power.proofs.Laws.{powered-word}
 use Rattle.module_laws.proofs.Lent.{Alike, Short, front, front-on, front-wide, front-reset, short-on, short-wide, short-reset, powered-kept, powered-sane}
-use Rattle.fates.specs.History.{History, partBy, isRefused, stepBy, historyStep}
-use Rattle.fates.specs.Run.{lent}
+use Rattle.fates.specs.History.{History, partBy, Silent, Performed, tells, historyStep}
 use Rattle.fates.specs.Agrees.{Agrees}
 use Rattle.fates.proofs.Accepted.{block-accepted, wide-accepted}
 
@@ -48,15 +49,20 @@ part-is : {s s′ r r′ t t′ : ℕ} → s ≡ s′ → r ≡ r′ → t ≡ t
     → _≡_ {A = Part} (record { stamp = s; resolution = r; threshold = t }) (record { stamp = s′; resolution = r′; threshold = t′ })
 part-is s r t = λ i. record { stamp = s i; resolution = r i; threshold = t i }
 
-accepted-step : (c : Call) (a : Answer) (h : History) (m : List ℕ) → isRefused a ≡ false → Agrees (stepBy false c a h) m → Agrees (historyStep c a h) m
-accepted-step c a h m e g = subst (λ (t : Bool). Agrees (stepBy t c a h) m) (sym e) g
+-- the history after a call with its answer
+abbrev pub callStep : Call → Answer → History → History
+callStep c a h = historyStep (tells (Direct c) a) h
 
-refused-step : (c : Call) (r : ℕ) {h : History} {m : List ℕ} → Agrees h m → Agrees (historyStep c (Refused r) h) m
-refused-step c r g = record { sane = g .sane; count = g .count; part = g .part; kept = g .kept }
+accepted-step : (c : Call) (a : Answer) (h : History) (m : List ℕ) → isRefused a ≡ false → Agrees (historyStep (Performed c a) h) m → Agrees (callStep c a h) m
+accepted-step c a h m e g = subst (λ (t : Bool). Agrees (historyStep (cond t Silent (Performed c a)) h) m) (sym e) g
+
+-- an access that tells nothing
+pub silent : {h : History} {m : List ℕ} → Agrees h m → Agrees (historyStep Silent h) m
+silent g = record { sane = g .sane; count = g .count; part = g .part; kept = g .kept }
 
 -- ---- a power-up, whatever was before
 
-pub powers : (n : ℕ) (h : History) (l r : List ℕ) → powerRefusal n (length l) ≡ 0 → Agrees (historyStep (PowerUp n) Done h) (powered n l ++ r)
+pub powers : (n : ℕ) (h : History) (l r : List ℕ) → powerRefusal n (length l) ≡ 0 → Agrees (callStep (PowerUp n) Done h) (powered n l ++ r)
 powers n h l r e =
     record {
       sane = powered-sane n l r e;
@@ -91,7 +97,7 @@ module _ {h : History} {m : List ℕ} (g : Agrees h m) where
           (eqb-true ch ch′ z) same
       each ch′ p q false z = ap keptOf (on-other ch k m e ch′ p (eqb-false ch ch′ z)) ∙ g .kept ch′ p q
 
-      on-accepted : Agrees (stepBy false (On ch k) a h) (acceptedAfter ch k m)
+      on-accepted : Agrees (historyStep (Performed (On ch k) a) h) (acceptedAfter ch k m)
       on-accepted =
           let still : (i : ℕ) → i < counters → word (acceptedAfter ch k m) i ≡ word m i = on-word ch k m e in
           record {
@@ -105,14 +111,14 @@ module _ {h : History} {m : List ℕ} (g : Agrees h m) where
           }
 
     on-step : (t : Bool) → eqb (onRefusal ch k m) 0 ≡ t
-        → Agrees (historyStep (On ch k) (cond t a (Refused (onRefusal ch k m))) h) (cond t (acceptedAfter ch k m) m)
+        → Agrees (callStep (On ch k) (cond t a (Refused (onRefusal ch k m))) h) (cond t (acceptedAfter ch k m) m)
     on-step true e =
         accepted-step (On ch k) a h (acceptedAfter ch k m) (block-accepted k (blockAfter (givenOf ch k m) k (block m ch)) (block m ch)) (on-accepted (eqb-true _ _ e))
-    on-step false e = refused-step (On ch k) (onRefusal ch k m) g
+    on-step false e = silent g
 
   -- a module reset
   reset-step : (t : Bool) → eqb (wideRefusal m) 0 ≡ t
-      → Agrees (historyStep Reset (cond t Done (Refused (wideRefusal m))) h) (cond t (moduleReset m) m)
+      → Agrees (callStep Reset (cond t Done (Refused (wideRefusal m))) h) (cond t (moduleReset m) m)
   reset-step true e =
       record {
         sane = reset-sane (g .sane);
@@ -122,7 +128,7 @@ module _ {h : History} {m : List ℕ} (g : Agrees h m) where
         kept =
             λ ch p q. reset-kept (g .sane) ch p (rw (g .count) q) ∙ ap (keptBy counted resetEffect) (g .kept ch p q) ∙ sym (rolls resetEffect (h .kept ch));
       }
-  reset-step false e = refused-step Reset (wideRefusal m) g
+  reset-step false e = silent g
 
   -- the stamp's calls and the fault threshold's: a word of the module part written, and another
   here : (i v : ℕ) → i < moduleWords → word (set m i v) i ≡ v
@@ -141,7 +147,7 @@ module _ {h : History} {m : List ℕ} (g : Agrees h m) where
   stored ReadThreshold = refl
 
   wide-step : (k : WideCall) (t : Bool) → eqb (callRefusal k m) 0 ≡ t
-      → Agrees (historyStep (Wide k) (cond t (wideAnswer k m) (Refused (callRefusal k m))) h) (cond t (wideAfter k m) m)
+      → Agrees (callStep (Wide k) (cond t (wideAnswer k m) (Refused (callRefusal k m))) h) (cond t (wideAfter k m) m)
   wide-step k true z =
       let e = eqb-true (callRefusal k m) 0 z in
       let w = wide-word (g .sane) k e in
@@ -152,24 +158,24 @@ module _ {h : History} {m : List ℕ} (g : Agrees h m) where
         part = part-is (w stamp (omega arith)) (w resolution (omega arith)) (w threshold (omega arith)) ∙ stored k ∙ ap (partBy k) (g .part);
         kept = λ ch p q. wide-kept (g .sane) k e ch p (rw (g .count) q) ∙ g .kept ch p q;
       })
-  wide-step k false e = refused-step (Wide k) (callRefusal k m) g
+  wide-step k false e = silent g
 
 -- ---- on its first words
 
 module _ {h : History} (l r : List ℕ) (g : Agrees h (l ++ r)) where
-  alike : (c : Call) → Alike c l r → Agrees (historyStep c (answer c (l ++ r)) h) (after c (l ++ r)) → Agrees (historyStep c (answer c l) h) (after c l ++ r)
+  alike : (c : Call) → Alike c l r → Agrees (callStep c (answer c (l ++ r)) h) (after c (l ++ r)) → Agrees (callStep c (answer c l) h) (after c l ++ r)
   alike c s k = rw (s .answers, s .leaves) k
 
-  short : (c : Call) → Short c l → Agrees (historyStep c (answer c l) h) (after c l ++ r)
-  short c s = rw (s .answers, s .leaves) (refused-step c 1 g)
+  short : (c : Call) → Short c l → Agrees (callStep c (answer c l) h) (after c l ++ r)
+  short c s = rw (s .answers, s .leaves) (silent g)
 
   power-step : (n : ℕ) (t : Bool) → eqb (powerRefusal n (length l)) 0 ≡ t
-      → Agrees (historyStep (PowerUp n) (cond t Done (Refused (powerRefusal n (length l)))) h) (cond t (powered n l) l ++ r)
+      → Agrees (callStep (PowerUp n) (cond t Done (Refused (powerRefusal n (length l)))) h) (cond t (powered n l) l ++ r)
   power-step n true e = powers n h l r (eqb-true _ _ e)
-  power-step n false e = refused-step (PowerUp n) (powerRefusal n (length l)) g
+  power-step n false e = silent g
 
   -- by whether enough words are lent
-  by-length : (c : Call) (t : Bool) → ltb (length l) (need (word (l ++ r) count)) ≡ t → Agrees (historyStep c (answer c l) h) (after c l ++ r)
+  by-length : (c : Call) (t : Bool) → ltb (length l) (need (word (l ++ r) count)) ≡ t → Agrees (callStep c (answer c l) h) (after c l ++ r)
   by-length (PowerUp n) t e = power-step n (eqb (powerRefusal n (length l)) 0) refl
   by-length Reset true e = short Reset (short-reset l r (g .sane) (ltb-true _ _ e))
   by-length Reset false e =
@@ -181,9 +187,5 @@ module _ {h : History} (l r : List ℕ) (g : Agrees h (l ++ r)) where
   by-length (On ch k) false e =
       alike (On ch k) (front-on (front l r (g .sane) (ltb-false _ _ e)) ch k) (on-step g ch k (eqb (onRefusal ch k (l ++ r)) 0) refl)
 
-  lent-step : (c : Call) → Agrees (historyStep c (answer c l) h) (after c l ++ r)
+  pub lent-step : (c : Call) → Agrees (callStep c (answer c l) h) (after c l ++ r)
   lent-step c = by-length c (ltb (length l) (need (word (l ++ r) count))) refl
-
--- a call that is lent the first k words
-pub step : (h : History) (m : List ℕ) (k : ℕ) (c : Call) → Agrees h m → Agrees (historyStep c (answer c (take k m)) h) (lent k c m)
-step h m k c g = lent-step (take k m) (drop k m) (subst (Agrees h) (sym (take-append-drop k m)) g) c

@@ -1,18 +1,24 @@
--- The history of a list of calls and answers, the latest first (paper 01, "Fates": "and nothing from memory").
+-- The history of a list of accesses and answers, the latest first (paper 01, "Fates": "and nothing from memory").
 use Prim.Native.Nat.{ℕ, _+_}
-use mathlib.Core.List.{List, [], _∷_}
-use mathlib.Core.Bool.{Bool, true, false, cond}
+use mathlib.Core.List.{List, [], _∷_, map}
+use mathlib.Core.Bool.{cond}
 use lib.Dec.{eqb}
 use Rattle.block.specs.Counts.{counted}
 use Rattle.block.specs.Kept.{Kept, keptFirst, Effect, keptBy}
+use Rattle.channel_calls.specs.Answers.{isRefused}
 use Rattle.channel_calls.specs.declared.calls.Answer.{Answer}
-use Rattle.channel_calls.specs.declared.calls.Answer.the-variants.{Done, Refused, Value, Waiting, Fates, Arrived, Entry, Stepped}
+use Rattle.channel_calls.specs.declared.calls.Answer.the-variants.{Done}
 use Rattle.channel_laws.specs.Effects.{nothing, effect, resetEffect, powerEffect}
 use Rattle.wide.specs.Part.{Part}
 use Rattle.wide.specs.declared.calls.WideCall.{WideCall}
 use Rattle.wide.specs.declared.calls.WideCall.the-variants.{AdvanceStamp, ZeroStamp, ReadStamp, WriteResolution, ReadResolution, WriteThreshold, ReadThreshold}
 use Rattle.module.specs.declared.calls.Call.{Call}
 use Rattle.module.specs.declared.calls.Call.the-variants.{PowerUp, Reset, Wide, On}
+use Rattle.registers.specs.Turned.{writeTurned}
+use Rattle.registers.specs.declared.accesses.Access.{Access}
+use Rattle.registers.specs.declared.accesses.Access.the-variants.{Direct, ReadRegister, WriteRegister}
+use Rattle.registers.specs.declared.turned.Turned.{Turned}
+use Rattle.registers.specs.declared.turned.Turned.the-variants.{NotTurned, OneCall, EachNamed}
 
 -- "It keeps the stamp, all settings and, for each FIFO, the held entries and whole-number counts.", and the count of channels
 pub record History : Type 0 where
@@ -51,6 +57,31 @@ partAfter Reset p = partFirst
 partAfter (Wide k) p = partBy k p
 partAfter (On ch k) p = p
 
+-- ---- what an access tells
+
+-- a call that was accepted, with its answer; or nothing that a history keeps
+pub data Telling : Type 0 where
+  Silent : Telling
+  Performed : Call → Answer → Telling
+
+-- a register write that was not refused: the call that it was turned into. A masked trigger, pause or stop changes neither settings nor FIFOs
+abbrev pub writeTells : Turned → Telling
+writeTells (NotTurned r) = Silent
+writeTells (OneCall ch k bits) = Performed (On ch k) Done
+writeTells (EachNamed c mask) = Silent
+
+-- "Any other call, and any refused one: nothing."; a register read is such a call
+abbrev pub tells : Access → Answer → Telling
+tells (Direct c) a = cond (isRefused a) Silent (Performed c a)
+tells (ReadRegister x) a = Silent
+tells (WriteRegister x v) a = cond (isRefused a) Silent (writeTells (writeTurned x v))
+
+-- what a list of accesses with their answers tells
+abbrev pub told : List (Access × Answer) → List Telling
+told es = map (λ e. tells (e .0) (e .1)) es
+
+-- ---- what it makes of a history
+
 -- what an accepted call does to channel ch
 abbrev pub acceptedEffect : ℕ → Call → Answer → History → Effect
 acceptedEffect ch (PowerUp n) a h = powerEffect
@@ -59,36 +90,28 @@ acceptedEffect ch (Wide k) a h = nothing (h .kept ch .settings)
 acceptedEffect ch (On ch′ k) a h =
     cond (eqb ch′ ch) (effect (h .part .stamp) k a (h .kept ch .settings)) (nothing (h .kept ch .settings))
 
-abbrev pub isRefused : Answer → Bool
-isRefused Done = false
-isRefused (Refused r) = true
-isRefused (Value x) = false
-isRefused (Waiting m w) = false
-isRefused (Fates a r c o t s d) = false
-isRefused (Arrived a) = false
-isRefused (Entry s w t) = false
-isRefused (Stepped o) = false
+-- what an access does to channel ch, to the count and to the module part
+abbrev pub effectOn : ℕ → Telling → History → Effect
+effectOn ch Silent h = nothing (h .kept ch .settings)
+effectOn ch (Performed c a) h = acceptedEffect ch c a h
 
--- "Any other call, and any refused one: nothing."
-abbrev pub effectBy : Bool → ℕ → Call → Answer → History → Effect
-effectBy refused ch c a h = cond refused (nothing (h .kept ch .settings)) (acceptedEffect ch c a h)
+abbrev pub countBy : Telling → ℕ → ℕ
+countBy Silent k = k
+countBy (Performed c a) k = countAfter c k
 
-abbrev pub stepBy : Bool → Call → Answer → History → History
-stepBy refused c a h =
+abbrev pub partTold : Telling → Part → Part
+partTold Silent p = p
+partTold (Performed c a) p = partAfter c p
+
+-- the history after it
+abbrev pub historyStep : Telling → History → History
+historyStep t h =
     record {
-      count = cond refused (h .count) (countAfter c (h .count));
-      part = cond refused (h .part) (partAfter c (h .part));
-      kept = λ ch. keptBy _+_ (effectBy refused ch c a h) (h .kept ch);
+      count = countBy t (h .count);
+      part = partTold t (h .part);
+      kept = λ ch. keptBy _+_ (effectOn ch t h) (h .kept ch);
     }
 
--- what a call does to channel ch, and the history after it
-abbrev pub effectOn : ℕ → Call → Answer → History → Effect
-effectOn ch c a h = effectBy (isRefused a) ch c a h
-
-abbrev pub historyStep : Call → Answer → History → History
-historyStep c a h = stepBy (isRefused a) c a h
-
--- "Demand 3's history gets the calls in order, each with its arguments and answer"
-abbrev pub history : List (Call × Answer) → History
+abbrev pub history : List Telling → History
 history [] = start
-history (e ∷ before) = historyStep (e .0) (e .1) (history before)
+history (t ∷ before) = historyStep t (history before)

@@ -7,9 +7,7 @@ use lib.ListN.{length, take, drop}
 use Rattle.block.specs.Fifos.{Fifo, Change, Stays, Adds, Overwrites, Takes, Clears, Begins}
 use Rattle.block.specs.Kept.{Kept, Effect}
 use Rattle.channel.specs.Told.{oldestOf}
-use Rattle.channel_calls.specs.declared.calls.Answer.{Answer}
-use Rattle.module.specs.declared.calls.Call.{Call}
-use Rattle.fates.specs.History.{effectOn, history}
+use Rattle.fates.specs.History.{Telling, effectOn, history}
 
 -- ---- of which FIFO
 
@@ -44,12 +42,12 @@ pub data Fate : Type 0 where
   Cleared : Fate
   Overwritten : Fate
 
--- an entry as it was accepted, with the place in the list, from 1, of the call that accepted it
+-- an entry as it was accepted, with the place in the list, from 1, of the access that had it accepted
 pub record Accepted : Type 0 where
   pub entry : List ℕ
   pub place : ℕ
 
--- an entry with its fate, and the place of the call that gave it
+-- an entry with its fate, and the place of the access that gave it
 pub record Departed : Type 0 where
   pub accepted : Accepted
   pub fate : Fate
@@ -61,7 +59,7 @@ pub record Ledger : Type 0 where
   pub held : List Accepted
 
 module _ (at : ℕ) (l : Ledger) where
-  -- the call at a place has an entry accepted
+  -- the access at a place has an entry accepted
   abbrev pub enters : List ℕ → Ledger
   enters e = record { departed = l .departed; held = l .held ++ (record { entry = e; place = at } ∷ []) }
 
@@ -73,7 +71,7 @@ module _ (at : ℕ) (l : Ledger) where
         held = drop n (l .held);
       }
 
--- the ledger after the call at a place, which makes this change of the FIFO
+-- the ledger after the access at a place, which makes this change of the FIFO
 abbrev pub ledgerAfter : ℕ → Change → Ledger → Ledger
 ledgerAfter at Stays l = l
 ledgerAfter at (Adds e) l = enters at l e
@@ -101,21 +99,21 @@ Fits side (Takes e) f = (0 < length (f .held)) × (aside side e ≡ aside side (
 Fits side Clears f = Unit
 Fits side Begins f = Unit
 
--- ---- of a list of calls and answers, the latest first
+-- ---- of a list of accesses, by what they tell, the latest first
 
 module _ (side : Side) (ch : ℕ) where
-  -- what a call does to the FIFO of channel ch, behind a list of calls
-  abbrev pub changeBehind : List (Call × Answer) → Call × Answer → Change
-  changeBehind before e = changeOf side (effectOn ch (e .0) (e .1) (history before))
+  -- what an access does to the FIFO of channel ch, behind a list of accesses
+  abbrev pub changeBehind : List Telling → Telling → Change
+  changeBehind before t = changeOf side (effectOn ch t (history before))
 
-  abbrev pub ledger : List (Call × Answer) → Ledger
+  abbrev pub ledger : List Telling → Ledger
   ledger [] = record { departed = []; held = [] }
-  ledger (e ∷ before) = ledgerAfter (suc (length before)) (changeBehind before e) (ledger before)
+  ledger (t ∷ before) = ledgerAfter (suc (length before)) (changeBehind before t) (ledger before)
 
-  -- "number the entries that each FIFO accepted since the last accepted power-up": each with the place of the call that accepted it
-  abbrev pub acceptedBy : List (Call × Answer) → List Accepted
+  -- "number the entries that each FIFO accepted since the last accepted power-up": each with the place of the access that accepted it
+  abbrev pub acceptedBy : List Telling → List Accepted
   acceptedBy [] = []
-  acceptedBy (e ∷ before) = acceptedAfter (suc (length before)) (changeBehind before e) (acceptedBy before)
+  acceptedBy (t ∷ before) = acceptedAfter (suc (length before)) (changeBehind before t) (acceptedBy before)
 
 -- ---- what a ledger says
 

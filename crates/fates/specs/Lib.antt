@@ -5,3 +5,4 @@ pub mod Answers
 pub mod Agrees
 pub mod Theorem
 pub mod Beyond
+pub mod Untouched

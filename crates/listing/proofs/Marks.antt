@@ -1,4 +1,4 @@
--- The stored new marks are those that the calls and answers tell, and an arrival's outcome goes by them.
+-- The stored new marks are those that the accesses and answers tell, and an arrival's outcome goes by them.
 -- Assumes nothing.
 use Prim.Native.Nat.{ℕ, _≤_, _<_}
 use mathlib.Core.Path.{_≡_, refl, sym, ap, _∙_, subst}
@@ -17,11 +17,11 @@ use Rattle.block.specs.Mailboxes.{mailboxAt, isNew}
 use Rattle.receive.specs.Arrival.{arrival}
 use Rattle.receive.specs.declared.Arrival.{Arrival}
 use Rattle.receive.specs.declared.Arrival.the-variants.{Ignored}
-use Rattle.channel.specs.Channel.{blockAnswer, blockAfter}
+use Rattle.channel.specs.Channel.{blockAnswer}
 use Rattle.channel_calls.specs.declared.calls.ReadCall.the-variants.{ReadCounts}
 use Rattle.channel_calls.specs.declared.calls.ReceiveCall.the-variants.{Arrive}
 use Rattle.channel_calls.specs.declared.calls.ChannelCall.{ChannelCall}
-use Rattle.channel_calls.specs.declared.calls.ChannelCall.the-variants.{Reads, Receive}
+use Rattle.channel_calls.specs.declared.calls.ChannelCall.the-variants.{Settings, Memories, Status, Tests, Reads, Receive, Transmit}
 use Rattle.channel_calls.specs.declared.calls.Answer.{Answer}
 use Rattle.channel_calls.specs.declared.calls.Answer.the-variants.{Done, Arrived}
 use Rattle.channel_laws.specs.Effects.{byAnswer, nothing, effect}
@@ -44,39 +44,29 @@ use Rattle.module.specs.declared.calls.Call.the-variants.{PowerUp, Reset, Wide,
 use Rattle.module_laws.proofs.OnChannel.{on-within, on-same, on-other}
 use Rattle.frame.proofs.Blocks.{Within}
 use Rattle.module_laws.proofs.OnModule.{wide-others}
-use Rattle.fates.specs.History.{History, isRefused, countAfter, acceptedEffect, historyStep, history}
+use Rattle.fates.specs.History.{Telling, Silent, Performed, history}
 use Rattle.fates.specs.Agrees.{Agrees}
-use Rattle.fates.proofs.Accepted.{block-accepted, wide-accepted}
+use Rattle.fates.proofs.Registers.{Quiet, quiet-effect}
 use Rattle.fates.proofs.Along.{Invariant}
-use Rattle.listing.specs.Marks.{readsBy, markAfter, marked}
-
--- ---- an accepted call
-
-accepted-mark : (ch i : ℕ) (c : Call) (a : Answer) (h : History) (t : Bool) → isRefused a ≡ false
-    → markAfter ch i c a h t
-    ≡ cond (readsBy ch i c) false (markBy (inFifoMode (h .kept ch .settings)) (acceptedEffect ch c a h .receive) (h .kept ch .receive .held) i t)
-accepted-mark ch i c a h t e = rw e refl
-
-accepted-count : (c : Call) (a : Answer) (h : History) → isRefused a ≡ false → historyStep c a h .count ≡ countAfter c (h .count)
-accepted-count c a h e = rw e refl
+use Rattle.listing.specs.Marks.{marked}
 
 -- ---- what holds along a list
 
 -- the stored marks
-abbrev Stored : List (Call × Answer) → List ℕ → Type 0
+abbrev Stored : List Telling → List ℕ → Type 0
 Stored es m = (ch i : ℕ) → 1 ≤ ch → ch ≤ history es .count → i < indexes → isNew i (block m ch) ≡ marked ch i es
 
 -- in mailbox mode an arrival's outcome goes by the mark before it
-abbrev pub ArrivalTold : Call × Answer → List (Call × Answer) → Type 0
+abbrev pub ArrivalTold : Telling → List Telling → Type 0
 ArrivalTold e before =
-    (ch w : ℕ) → e .0 ≡ On ch (Receive (Arrive w)) → inFifoMode (history before .kept ch .settings) ≡ false → (o : Arrival) → e .1 ≡ Arrived o
+    (ch w : ℕ) (o : Arrival) → e ≡ Performed (On ch (Receive (Arrive w))) (Arrived o) → inFifoMode (history before .kept ch .settings) ≡ false
     → ListedBy (marked ch (index w) before) o
 
-abbrev pub Told : List (Call × Answer) → Type 0
+abbrev pub Told : List Telling → Type 0
 Told [] = Unit
 Told (e ∷ before) = ArrivalTold e before × Told before
 
-pub record Holds (es : List (Call × Answer)) (m : List ℕ) : Type 0 where
+pub record Holds (es : List Telling) (m : List ℕ) : Type 0 where
   pub stored : Stored es m
   pub told : Told es
 
@@ -103,28 +93,30 @@ callOf (On ch k) = k
 abbrev outcomeOf : Answer → Arrival
 outcomeOf a = byAnswer Ignored (λ o. o) (λ e. Ignored) (λ o. Ignored) a
 
-no-arrival : (c : Call) (a : Answer) (before : List (Call × Answer)) → onChannel c ≡ false → ArrivalTold (c, a) before
-no-arrival c a before n ch w e = absurd (true≢false (sym (ap onChannel e) ∙ n))
+abbrev callTold : Telling → Call
+callTold Silent = Reset
+callTold (Performed c a) = c
+
+abbrev answerTold : Telling → Answer
+answerTold Silent = Done
+answerTold (Performed c a) = a
+
+no-arrival : (e : Telling) (before : List Telling) → onChannel (callTold e) ≡ false → ArrivalTold e before
+no-arrival e before n ch w o q = absurd (true≢false (sym (ap (λ (t : Telling). onChannel (callTold t)) q) ∙ n))
 
 -- ---- each kind of call
 
-power-stored : (n : ℕ) (l r : List ℕ) (es : List (Call × Answer)) → Stored ((PowerUp n, Done) ∷ es) (powered n l ++ r)
+power-stored : (n : ℕ) (l r : List ℕ) (es : List Telling) → Stored (Performed (PowerUp n) Done ∷ es) (powered n l ++ r)
 power-stored n l r es ch i low high h = ap (isNew i) (powered-block n ch l r low high) ∙ first-mark h blockWords
 
-module _ (es : List (Call × Answer)) (m : List ℕ) (g : Agrees (history es) m) (p : Holds es m) where
+module _ (es : List Telling) (m : List ℕ) (g : Agrees (history es) m) (p : Holds es m) where
   module _ (ch′ : ℕ) (k : ChannelCall) (e : onRefusal ch′ k m ≡ 0) where
     abbrev a : Answer
     a = blockAnswer (givenOf ch′ k m) k (block m ch′)
 
-    ok : isRefused a ≡ false
-    ok = block-accepted k (blockAfter (givenOf ch′ k m) k (block m ch′)) (block m ch′)
-
-    on-stored : Stored ((On ch′ k, a) ∷ es) (acceptedAfter ch′ k m)
-    on-stored ch i low high h = go (eqb ch′ ch) refl ∙ sym (accepted-mark ch i (On ch′ k) a (history es) (marked ch i es) ok)
+    on-stored : Stored (Performed (On ch′ k) a ∷ es) (acceptedAfter ch′ k m)
+    on-stored ch i low here h = go (eqb ch′ ch) refl
       where
-        here : ch ≤ history es .count
-        here = rw (accepted-count (On ch′ k) a (history es) ok) at high
-
         -- the mark by what is kept of the channel, for a call on channel x
         by : ℕ → ℕ → Bool → Kept → Bool
         by x s t q =
@@ -151,14 +143,14 @@ module _ (es : List (Call × Answer)) (m : List ℕ) (g : Agrees (history es) m)
             (own (subst (λ (x : ℕ). onRefusal x k m ≡ 0) is e))
         go false z = ap (isNew i) (on-other ch′ k m e ch low (eqb-false ch′ ch z)) ∙ p .stored ch i low here h
 
-    on-told : ArrivalTold (On ch′ k, a) es
-    on-told ch w d f o r =
+    on-told : ArrivalTold (Performed (On ch′ k) a) es
+    on-told ch w o q f =
         subst (λ (x : ℕ). ListedBy (marked x (index w) es) o) is
         (subst (λ (t : Bool). ListedBy t o) (p .stored ch′ (index w) (within .low) here (mod-lt w (omega arith)))
         (subst (ListedBy (isNew (index w) (block m ch′))) outcome (new-by w (block m ch′) mode)))
       where
         is : ch′ ≡ ch
-        is = ap channelOf d
+        is = ap (λ (t : Telling). channelOf (callTold t)) q
 
         within : Within m ch′
         within = on-within ch′ k m e
@@ -176,15 +168,14 @@ module _ (es : List (Call × Answer)) (m : List ℕ) (g : Agrees (history es) m)
         given q z = ap (λ (x : ChannelCall). outcomeOf (blockAnswer (givenOf ch′ k m) x (block m ch′))) z
 
         outcome : arrival w (block m ch′) ≡ o
-        outcome = sym (given k (ap callOf d)) ∙ ap outcomeOf r
+        outcome = sym (given k (ap (λ (t : Telling). callOf (callTold t)) q)) ∙ ap (λ (t : Telling). outcomeOf (answerTold t)) q
 
-  wide-stored : (k : WideCall) → callRefusal k m ≡ 0 → Stored ((Wide k, wideAnswer k m) ∷ es) (wideAfter k m)
-  wide-stored k e ch i low high h =
-      let here : ch ≤ history es .count = rw (accepted-count (Wide k) (wideAnswer k m) (history es) (wide-accepted k m)) at high in
+  wide-stored : (k : WideCall) → callRefusal k m ≡ 0 → Stored (Performed (Wide k) (wideAnswer k m) ∷ es) (wideAfter k m)
+  wide-stored k e ch i low here h =
       same-mark h (block m ch) (block (wideAfter k m) ch) (wide-others (g .sane) k e ch low (rw (g .count) here) (mailboxAt i) (omega arith))
-      ∙ p .stored ch i low here h ∙ sym (accepted-mark ch i (Wide k) (wideAnswer k m) (history es) (marked ch i es) (wide-accepted k m))
+      ∙ p .stored ch i low here h
 
-  reset-stored : Stored ((Reset, Done) ∷ es) (moduleReset m)
+  reset-stored : Stored (Performed Reset Done ∷ es) (moduleReset m)
   reset-stored ch i low high h =
       let here : ch ≤ word m count = rw (g .count) high in
       ap (isNew i) (reset-block m (g .sane .frame) ch low here) ∙ reset-mark h (g .sane .usable ch low here)
@@ -195,15 +186,44 @@ module _ (es : List (Call × Answer)) (m : List ℕ) (g : Agrees (history es) m)
       by : Bool → Kept → Bool
       by t q = markBy (inFifoMode (q .settings)) Clears (q .receive .held) i t
 
+-- ---- a call that changes nothing that a history keeps
+
+quiet-reads : (k : ChannelCall) (i : ℕ) → Quiet k → readsMailbox k i ≡ false
+quiet-reads (Settings k) i q = refl
+quiet-reads (Memories k) i q = refl
+quiet-reads (Status k) i q = refl
+quiet-reads (Tests k) i q = refl
+quiet-reads (Reads k) i q = refl
+quiet-reads (Receive k) i q = absurd q
+quiet-reads (Transmit k) i q = refl
+
+quiet-marked : (ts : List Telling) (ch i ch′ : ℕ) (k : ChannelCall) (a : Answer) → Quiet k → marked ch i (Performed (On ch′ k) a ∷ ts) ≡ marked ch i ts
+quiet-marked ts ch i ch′ k a q = go (eqb ch′ ch)
+  where
+    go : (t : Bool)
+        → cond (cond t (readsMailbox k i) false) false
+        (markBy (inFifoMode (history ts .kept ch .settings))
+        (cond t (effect (history ts .part .stamp) k a (history ts .kept ch .settings)) (nothing (history ts .kept ch .settings)) .receive)
+        (history ts .kept ch .receive .held) i (marked ch i ts))
+        ≡ marked ch i ts
+    go true = rw (quiet-reads k i q, quiet-effect (history ts .part .stamp) k a (history ts .kept ch .settings) q) refl
+    go false = refl
+
 -- ---- along every list
 
 pub marks : Invariant Holds
 marks =
     record {
-      first = λ n l r e. record { stored = power-stored n l r []; told = (no-arrival (PowerUp n) Done [] refl, tt) };
-      power = λ es m p n l r e. record { stored = power-stored n l r es; told = (no-arrival (PowerUp n) Done es refl, p .told) };
-      refused = λ es m p c n. record { stored = p .stored; told = ((λ ch w d f o r. absurd (true≢false (ap isRefused r))), p .told) };
+      first = λ n l r e. record { stored = power-stored n l r []; told = (no-arrival (Performed (PowerUp n) Done) [] refl, tt) };
+      power = λ es m p n l r e. record { stored = power-stored n l r es; told = (no-arrival (Performed (PowerUp n) Done) es refl, p .told) };
+      silent = λ es m p. record { stored = p .stored; told = (no-arrival Silent es refl, p .told) };
       on = λ es m g p ch k e. record { stored = on-stored es m g p ch k e; told = (on-told es m g p ch k e, p .told) };
-      wide = λ es m g p k e. record { stored = wide-stored es m g p k e; told = (no-arrival (Wide k) (wideAnswer k m) es refl, p .told) };
-      reset = λ es m g p e. record { stored = reset-stored es m g p; told = (no-arrival Reset Done es refl, p .told) };
+      wide = λ es m g p k e. record { stored = wide-stored es m g p k e; told = (no-arrival (Performed (Wide k) (wideAnswer k m)) es refl, p .told) };
+      reset = λ es m g p e. record { stored = reset-stored es m g p; told = (no-arrival (Performed Reset Done) es refl, p .told) };
+      quiet =
+          λ es m ch k q g b p.
+          record {
+            stored = λ x i low high h. p .stored x i low high h ∙ quiet-marked es x i ch k (blockAnswer g k b) q;
+            told = p .told .1;
+          };
     }

@@ -1,4 +1,4 @@
--- The rules of the index list, from the marks that calls and answers tell.
+-- The rules of the index list, from the marks that accesses and answers tell.
 -- Assumes nothing.
 use Prim.Native.Nat.{ℕ, _+_, _≤_, _<_, zero-le}
 use mathlib.Core.Path.{_≡_, refl, sym, ap, ap₂, _∙_, subst}
@@ -30,7 +30,7 @@ use Rattle.channel_laws.specs.Listing.{ListedBy, names, namesAny, timesListed, 
 use Rattle.channel_laws.proofs.Listing.{names-entry}
 use Rattle.module.specs.declared.calls.Call.{Call}
 use Rattle.module.specs.declared.calls.Call.the-variants.{PowerUp, Reset, Wide, On}
-use Rattle.fates.specs.History.{History, isRefused, acceptedEffect, effectBy, effectOn, history}
+use Rattle.fates.specs.History.{History, Telling, Silent, Performed, acceptedEffect, effectOn, history}
 use Rattle.listing.specs.Marks.{readsBy, isRead, markAfter, marked}
 use Rattle.listing.specs.Theorem.{releasedBy, isEmpty, readsSince, Unreleased, Lists, Marks, Arrives}
 use Rattle.listing.proofs.Marks.{ArrivalTold, Told}
@@ -66,28 +66,28 @@ neither true q z = absurd (true≢false z)
 neither false q z = (refl, z)
 
 module _ (ch i : ℕ) where
-  pub kept : (later before : List (Call × Answer)) → marked ch i before ≡ true → Unreleased ch i later before → marked ch i (later ++ before) ≡ true
+  pub kept : (later before : List Telling) → marked ch i before ≡ true → Unreleased ch i later before → marked ch i (later ++ before) ≡ true
   kept [] before t u = t
   kept (e ∷ later) before t u =
       let h : History = history (later ++ before) in
-      let c : Change = effectOn ch (e .0) (e .1) h .receive in
+      let c : Change = effectOn ch e h .receive in
       let fifo : Bool = inFifoMode (h .kept ch .settings) in
-      let n = neither (isRead ch i (e .0) (e .1)) (releasedBy fifo c (h .kept ch .receive .held) i) (u .0) in
+      let n = neither (isRead ch i e) (releasedBy fifo c (h .kept ch .receive .held) i) (u .0) in
       rw (n .0, kept later before t (u .1)) (stays-by fifo c (h .kept ch .receive .held) i (n .1))
 
   -- ---- an arrival that marks
 
-  pub told-at : (later before : List (Call × Answer)) (e : Call × Answer) → Told (later ++ (e ∷ before)) → ArrivalTold e before
+  pub told-at : (later before : List Telling) (e : Telling) → Told (later ++ (e ∷ before)) → ArrivalTold e before
   told-at [] before e t = t .0
   told-at (x ∷ later) before e t = told-at later before e (t .1)
 
-  pub told-behind : (later before : List (Call × Answer)) (e : Call × Answer) → Told (later ++ (e ∷ before)) → Told before
+  pub told-behind : (later before : List Telling) (e : Telling) → Told (later ++ (e ∷ before)) → Told before
   told-behind [] before e t = t .1
   told-behind (x ∷ later) before e t = told-behind later before e (t .1)
 
   -- the change of the list that an arrival with this outcome makes
   arrive-mark : (w : ℕ) (o : Arrival) (h : History) (t : Bool)
-      → markAfter ch i (On ch (Receive (Arrive w))) (Arrived o) h t
+      → markAfter ch i (Performed (On ch (Receive (Arrive w))) (Arrived o)) h t
       ≡ markBy (inFifoMode (h .kept ch .settings)) (arrivalChange o (entryOf (h .part .stamp) w (h .kept ch .settings))) (h .kept ch .receive .held) i t
   arrive-mark w o h t = rw (eq-eqb ch ch refl) refl
 
@@ -104,13 +104,12 @@ module _ (ch i : ℕ) (below : i < indexes) where
       rw (m, names-entry below (h .part .stamp) w (h .kept ch .settings) m, eq-eqb (index w) i x) refl
   outcome-marks w AlreadyListed h t x m l k = l
 
-  pub arrival-marks : (e : Call × Answer) (before : List (Call × Answer)) → ArrivalTold e before → Arrives Marks ch i e before → marked ch i (e ∷ before) ≡ true
+  pub arrival-marks : (e : Telling) (before : List Telling) → ArrivalTold e before → Arrives Marks ch i e before → marked ch i (e ∷ before) ≡ true
   arrival-marks e before told r =
       let h : History = history before in
       let t : Bool = marked ch i before in
-      let by : ListedBy t (r .outcome) = subst (λ (j : ℕ). ListedBy (marked ch j before) (r .outcome)) (r .of-index) (told ch (r .word) (r .call) (r .mode) (r .outcome) (r .answer)) in
-      ap (λ (c : Call). markAfter ch i c (e .1) h t) (r .call) ∙ ap (λ (a : Answer). markAfter ch i (On ch (Receive (Arrive (r .word)))) a h t) (r .answer)
-      ∙ arrive-mark ch i (r .word) (r .outcome) h t ∙ outcome-marks (r .word) (r .outcome) h t (r .of-index) (r .mode) by (r .is)
+      let by : ListedBy t (r .outcome) = subst (λ (j : ℕ). ListedBy (marked ch j before) (r .outcome)) (r .of-index) (told ch (r .word) (r .outcome) (r .tells) (r .mode)) in
+      ap (λ (x : Telling). markAfter ch i x h t) (r .tells) ∙ arrive-mark ch i (r .word) (r .outcome) h t ∙ outcome-marks (r .word) (r .outcome) h t (r .of-index) (r .mode) by (r .is)
 
   lists-marks : (o : Arrival) → Lists o → Marks o
   lists-marks Ignored k = k
@@ -121,7 +120,7 @@ module _ (ch i : ℕ) (below : i < indexes) where
   lists-marks AlreadyListed k = tt
 
   -- (c)
-  pub mark-stays : (later before : List (Call × Answer)) (e : Call × Answer) → Told (later ++ (e ∷ before)) → Arrives Marks ch i e before
+  pub mark-stays : (later before : List Telling) (e : Telling) → Told (later ++ (e ∷ before)) → Arrives Marks ch i e before
       → Unreleased ch i later (e ∷ before) → marked ch i (later ++ (e ∷ before)) ≡ true
   mark-stays later before e told r u = kept ch i later (e ∷ before) (arrival-marks e before (told-at ch i later before e told) r) u
 
@@ -134,22 +133,21 @@ module _ (ch i : ℕ) (below : i < indexes) where
   unmarked-before t Overwriting k l = l
   unmarked-before t AlreadyListed k l = absurd k
 
-  pub listed-once : (later between before : List (Call × Answer)) (e f : Call × Answer) → Told (later ++ (e ∷ (between ++ (f ∷ before))))
+  pub listed-once : (later between before : List Telling) (e f : Telling) → Told (later ++ (e ∷ (between ++ (f ∷ before))))
       → Arrives Lists ch i e (between ++ (f ∷ before)) → Arrives Lists ch i f before → Unreleased ch i between (f ∷ before) → ⊥
   listed-once later between before e f told x y u =
-      let l : List (Call × Answer) = between ++ (f ∷ before) in
+      let l : List Telling = between ++ (f ∷ before) in
       let first : Arrives Marks ch i f before =
       record {
         word = y .word;
-        call = y .call;
+        outcome = y .outcome;
+        tells = y .tells;
         of-index = y .of-index;
         mode = y .mode;
-        outcome = y .outcome;
-        answer = y .answer;
         is = lists-marks (y .outcome) (y .is);
       } in
       let set : marked ch i l ≡ true = mark-stays between before f (told-behind ch i later l e told) first u in
-      let by = told-at ch i later l e told ch (x .word) (x .call) (x .mode) (x .outcome) (x .answer) in
+      let by = told-at ch i later l e told ch (x .word) (x .outcome) (x .tells) (x .mode) in
       let clear : marked ch i l ≡ false =
       unmarked-before (marked ch i l) (x .outcome) (x .is) (subst (λ (j : ℕ). ListedBy (marked ch j l) (x .outcome)) (x .of-index) by) in
       true≢false (sym set ∙ clear)
@@ -328,17 +326,14 @@ module _ (ch i : ℕ) (below : i < indexes) where
     accepted-few (Wide k) told f m = same (f m)
     accepted-few (On x k) told f m = on-few x k (eqb x ch) refl told f m
 
-    step-few : (c : Call) (q : Bool)
-        → ((w : ℕ) → c ≡ On ch (Receive (Arrive w)) → (o : Arrival) → a ≡ Arrived o → inFifoMode l ≡ false → index w ≡ i → ListedBy t o) → Before
-        → inFifoMode (effectBy q ch c a h .settings) ≡ false → Then (cond q false (readsBy ch i c)) (effectBy q ch c a h .receive)
-    step-few c true told f m = same (f m)
-    step-few c false told f m = accepted-few c told f m
-
   -- (b)
-  pub listed-few : (es : List (Call × Answer)) → Told es → inFifoMode (history es .kept ch .settings) ≡ false
+  pub listed-few : (es : List Telling) → Told es → inFifoMode (history es .kept ch .settings) ≡ false
       → Few (history es .kept ch .receive .held) (readsSince ch i es) (marked ch i es)
   listed-few [] told m = zero-le
-  listed-few (e ∷ before) told m =
-      none-if-empty i (history (e ∷ before) .kept ch .receive .held) _ _
-      (step-few (e .1) (history before) (readsSince ch i before) (marked ch i before) (e .0) (isRefused (e .1))
-      (λ w c o x n z. subst (λ (j : ℕ). ListedBy (marked ch j before) o) z (told .0 ch w c n o x)) (λ n. listed-few before (told .1) n) m)
+  listed-few (Silent ∷ before) told m =
+      none-if-empty i (history before .kept ch .receive .held) _ _
+      (same Done (history before) (readsSince ch i before) (marked ch i before) (listed-few before (told .1) m))
+  listed-few (Performed c a ∷ before) told m =
+      none-if-empty i (history (Performed c a ∷ before) .kept ch .receive .held) _ _
+      (accepted-few a (history before) (readsSince ch i before) (marked ch i before) c
+      (λ w d o x n z. subst (λ (j : ℕ). ListedBy (marked ch j before) o) z (told .0 ch w o (ap₂ Performed d x) n)) (λ n. listed-few before (told .1) n) m)

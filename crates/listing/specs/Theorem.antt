@@ -1,4 +1,4 @@
--- What a service desk may rely on in mailbox mode, over every list of calls (paper 02 (v)). Lists have the latest call first.
+-- What a service desk may rely on in mailbox mode, over every list of accesses (paper 02 (v)). Lists have the latest access first.
 use Prim.Native.Nat.{ℕ, _+_, _/_, _%_, _≤_, _<_}
 use mathlib.Core.Path.{_≡_}
 use mathlib.Core.Bool.{Bool, true, false, _||_, cond}
@@ -17,10 +17,11 @@ use Rattle.channel_calls.specs.declared.calls.Answer.{Answer}
 use Rattle.channel_calls.specs.declared.calls.Answer.the-variants.{Arrived, Entry}
 use Rattle.channel_laws.specs.Listing.{ListedBy, names, namesAny, timesListed, inFifoMode}
 use Rattle.frame.specs.Layout.{need}
-use Rattle.module.specs.declared.calls.Call.{Call}
 use Rattle.module.specs.declared.calls.Call.the-variants.{On}
-use Rattle.fates.specs.Run.{answerBehind, events}
-use Rattle.fates.specs.History.{History, effectOn, history}
+use Rattle.registers.specs.declared.accesses.Access.{Access}
+use Rattle.registers.specs.declared.accesses.Access.the-variants.{Direct}
+use Rattle.fates.specs.Run.{answerBehind, toldBy}
+use Rattle.fates.specs.History.{History, Telling, Performed, effectOn, history}
 use Rattle.fates.specs.Theorem.{Started}
 use Rattle.listing.specs.Marks.{isRead, marked}
 
@@ -41,20 +42,19 @@ isEmpty (x ∷ l) = false
 
 module _ (ch i : ℕ) where
   -- "its mailbox was read, or an entry of that index was overwritten or cleared"
-  abbrev pub releases : Call → Answer → History → Bool
-  releases c a h =
-      isRead ch i c a || releasedBy (inFifoMode (h .kept ch .settings)) (effectOn ch c a h .receive) (h .kept ch .receive .held) i
+  abbrev pub releases : Telling → History → Bool
+  releases e h = isRead ch i e || releasedBy (inFifoMode (h .kept ch .settings)) (effectOn ch e h .receive) (h .kept ch .receive .held) i
 
-  -- none of the later calls does so
-  abbrev pub Unreleased : List (Call × Answer) → List (Call × Answer) → Type 0
+  -- none of the later accesses does so
+  abbrev pub Unreleased : List Telling → List Telling → Type 0
   Unreleased [] before = Unit
-  Unreleased (e ∷ later) before = (releases (e .0) (e .1) (history (later ++ before)) ≡ false) × Unreleased later before
+  Unreleased (e ∷ later) before = (releases e (history (later ++ before)) ≡ false) × Unreleased later before
 
   -- how often its mailbox was read "since the list was last empty"
-  abbrev pub readsSince : List (Call × Answer) → ℕ
+  abbrev pub readsSince : List Telling → ℕ
   readsSince [] = 0
   readsSince (e ∷ before) =
-      cond (isEmpty (history (e ∷ before) .kept ch .receive .held)) 0 (cond (isRead ch i (e .0) (e .1)) 1 0 + readsSince before)
+      cond (isEmpty (history (e ∷ before) .kept ch .receive .held)) 0 (cond (isRead ch i e) 1 0 + readsSince before)
 
 -- ---- arrivals
 
@@ -77,13 +77,12 @@ Marks Overwriting = Unit
 Marks AlreadyListed = Unit
 
 -- an arrival of index i on channel ch in mailbox mode, answered so
-pub record Arrives (P : Arrival → Type 0) (ch i : ℕ) (e : Call × Answer) (before : List (Call × Answer)) : Type 0 where
+pub record Arrives (P : Arrival → Type 0) (ch i : ℕ) (e : Telling) (before : List Telling) : Type 0 where
   pub word : ℕ
-  pub call : e .0 ≡ On ch (Receive (Arrive word))
+  pub outcome : Arrival
+  pub tells : e ≡ Performed (On ch (Receive (Arrive word))) (Arrived outcome)
   pub of-index : index word ≡ i
   pub mode : inFifoMode (history before .kept ch .settings) ≡ false
-  pub outcome : Arrival
-  pub answer : e .1 ≡ Arrived outcome
   pub is : P outcome
 
 -- ---- what a mailbox read answers: an entry with the new mark or without it
@@ -97,28 +96,28 @@ pub record Shows (a : Answer) (t : Bool) : Type 0 where
 
 -- ---- what may be relied on
 
-module _ (m : List ℕ) (calls : List (ℕ × Call)) (ch i : ℕ) where
+module _ (m : List ℕ) (accesses : List (ℕ × Access)) (ch i : ℕ) where
   pub record Reliable : Type 0 where
-    -- the mark that the calls and answers tell is what a mailbox read shows after the list, lent any number of words that suffices
-    pub shown : (n : ℕ) → need (history (events m calls) .count) ≤ n → Shows (answerBehind m calls n (On ch (Receive (ReadMailbox i)))) (marked ch i (events m calls))
+    -- the mark that the accesses and answers tell is what a mailbox read shows after the list, lent any number of words that suffices
+    pub shown : (n : ℕ) → need (history (toldBy m accesses) .count) ≤ n → Shows (answerBehind m accesses n (Direct (On ch (Receive (ReadMailbox i))))) (marked ch i (toldBy m accesses))
     -- an arrival of the index in mailbox mode that is neither ignored nor filtered is answered already listed exactly where its mark was set
-    pub by-mark : (later before : List (Call × Answer)) (e : Call × Answer) → events m calls ≡ later ++ (e ∷ before)
+    pub by-mark : (later before : List Telling) (e : Telling) → toldBy m accesses ≡ later ++ (e ∷ before)
         → (x : Arrives (λ o. Unit) ch i e before) → ListedBy (marked ch i before) (x .outcome)
     -- (a) between two arrivals of the index answered appended or overwriting, its mailbox was read, or an entry of that index was overwritten
     -- or cleared
-    pub once : (later between before : List (Call × Answer)) (e f : Call × Answer) → events m calls ≡ later ++ (e ∷ (between ++ (f ∷ before)))
+    pub once : (later between before : List Telling) (e f : Telling) → toldBy m accesses ≡ later ++ (e ∷ (between ++ (f ∷ before)))
         → Arrives Lists ch i e (between ++ (f ∷ before)) → Arrives Lists ch i f before → Unreleased ch i between (f ∷ before) → ⊥
     -- (b) in mailbox mode the list holds the index at most as often as its mailbox was read since the list was last empty, and once more only
     -- while its mark is set
-    pub few : inFifoMode (history (events m calls) .kept ch .settings) ≡ false
-        → timesListed i (history (events m calls) .kept ch .receive .held) ≤ readsSince ch i (events m calls) + cond (marked ch i (events m calls)) 1 0
+    pub few : inFifoMode (history (toldBy m accesses) .kept ch .settings) ≡ false
+        → timesListed i (history (toldBy m accesses) .kept ch .receive .held) ≤ readsSince ch i (toldBy m accesses) + cond (marked ch i (toldBy m accesses)) 1 0
     -- (c) after an arrival answered appended, overwriting or already listed its mark stays set until its mailbox is read or an entry of that
     -- index is overwritten or cleared
-    pub stays : (later before : List (Call × Answer)) (e : Call × Answer) → events m calls ≡ later ++ (e ∷ before) → Arrives Marks ch i e before
-        → Unreleased ch i later (e ∷ before) → marked ch i (events m calls) ≡ true
+    pub stays : (later before : List Telling) (e : Telling) → toldBy m accesses ≡ later ++ (e ∷ before) → Arrives Marks ch i e before
+        → Unreleased ch i later (e ∷ before) → marked ch i (toldBy m accesses) ≡ true
 
--- every list of calls on one module's memory, of which the first is an accepted power-up; every channel and every index
+-- every list of accesses to one module's memory, of which the first is an accepted power-up; every channel and every index
 abbrev pub MailboxRules : Type 0
 MailboxRules =
-    (m : List ℕ) (calls : List (ℕ × Call)) → Started m calls → (ch : ℕ) → 1 ≤ ch → ch ≤ history (events m calls) .count → (i : ℕ) → i < indexes
-    → Reliable m calls ch i
+    (m : List ℕ) (accesses : List (ℕ × Access)) → Started m accesses → (ch : ℕ) → 1 ≤ ch → ch ≤ history (toldBy m accesses) .count → (i : ℕ) → i < indexes
+    → Reliable m accesses ch i

@@ -250,7 +250,7 @@ frame-short n k k′ low high less same = go (ltb n moduleWords) refl
     go false e = rw (same (ltb-false n moduleWords e), le-ltb k 1 low, le-ltb most k high, lt-ltb n (need k) less) refl
 
 module _ (l r : List ℕ) (s : Sane (l ++ r)) (less : length l < need (word (l ++ r) count)) where
-  part-short : partRefusal l ≡ 1
+  pub part-short : partRefusal l ≡ 1
   unfolding partRefusal
   part-short =
       let e : frameRefusal l ≡ 1 = frame-short (length l) (word (l ++ r) count) (word l count) (s .frame .low) (s .frame .high) less (λ h. word-front l r count (omega arith)) in

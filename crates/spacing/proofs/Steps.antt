@@ -12,27 +12,29 @@ use Rattle.block.specs.Layout.{word, settings, messageMark}
 use Rattle.block.specs.Kept.{Kept}
 use Rattle.schedule.specs.Spacing.{Item, Forgotten}
 use Rattle.schedule.proofs.Spacing.{Each, Apart}
-use Rattle.channel.specs.Channel.{blockAnswer, blockAfter}
-use Rattle.channel_calls.specs.declared.calls.Answer.{Answer}
+use Rattle.channel.specs.Channel.{blockAnswer}
+use Rattle.channel_calls.specs.declared.calls.SettingCall.the-variants.{WriteSetting, ReadSetting}
+use Rattle.channel_calls.specs.declared.calls.TransmitCall.the-variants.{WriteFifo, WriteAsync, Trigger, Pause, Stop, Step}
 use Rattle.channel_calls.specs.declared.calls.ChannelCall.{ChannelCall}
+use Rattle.channel_calls.specs.declared.calls.ChannelCall.the-variants.{Settings, Memories, Status, Tests, Reads, Receive, Transmit}
+use Rattle.channel_calls.specs.declared.calls.Given.{Given}
 use Rattle.channel_laws.specs.Spacing.{lineOf}
 use Rattle.channel_laws.proofs.Spacing.{call-apart}
 use Rattle.frame.specs.Layout.{block}
 use Rattle.power.specs.Power.{powered}
 use Rattle.reset.specs.Reset.{moduleReset}
 use Rattle.wide.specs.Refusals.{callRefusal}
-use Rattle.wide.specs.OnModule.{wideAnswer, wideAfter}
+use Rattle.wide.specs.OnModule.{wideAfter}
 use Rattle.wide.specs.declared.calls.WideCall.{WideCall}
 use Rattle.module.specs.OnChannel.{onRefusal, givenOf, acceptedAfter}
-use Rattle.module.specs.declared.calls.Call.{Call}
-use Rattle.module.specs.declared.calls.Call.the-variants.{Wide, On}
+use Rattle.module.specs.declared.calls.Call.the-variants.{On}
 use Rattle.module_laws.proofs.OnChannel.{on-within, on-same, on-other}
 use Rattle.module_laws.proofs.OnModule.{wide-others}
-use Rattle.fates.specs.History.{History, isRefused, countAfter, history}
+use Rattle.fates.specs.History.{History, Telling, Performed, history}
 use Rattle.fates.specs.Agrees.{Agrees}
-use Rattle.fates.proofs.Accepted.{block-accepted, wide-accepted}
+use Rattle.fates.proofs.Registers.{Quiet}
 use Rattle.fates.proofs.Along.{Invariant}
-use Rattle.spacing.specs.Line.{acceptedLine, lineBy, line}
+use Rattle.spacing.specs.Line.{line}
 
 -- the words of channel ch are apart, and its mark tells whether the next may follow at once
 pub record Holds (ch k : ℕ) (m : List ℕ) (l : List Item) : Type 0 where
@@ -40,21 +42,14 @@ pub record Holds (ch k : ℕ) (m : List ℕ) (l : List Item) : Type 0 where
   pub mark : 1 ≤ ch → ch ≤ k → Apart (word (block m ch) messageMark) l
 
 -- what holds along a list, of channel ch
-abbrev pub Spaces : ℕ → List (Call × Answer) → List ℕ → Type 0
+abbrev pub Spaces : ℕ → List Telling → List ℕ → Type 0
 Spaces ch es m = Holds ch (history es .count) m (line ch es)
 
 -- a call that forgets the mark, whatever it leaves
 forgets : (ch k : ℕ) (m : List ℕ) {l : List Item} → Each l → Holds ch k m (Forgotten ∷ l)
 forgets ch k m e = record { each = e; mark = λ p q. record { each = e; ready = λ z. tt } }
 
--- a call whose answer is no refusal, and which leaves the count
-accepted : (ch : ℕ) (c : Call) (a : Answer) (es : List (Call × Answer)) (m : List ℕ) → isRefused a ≡ false
-    → Holds ch (countAfter c (history es .count)) m (acceptedLine ch c a (history es) ++ line ch es) → Spaces ch ((c, a) ∷ es) m
-accepted ch c a es m e g =
-    subst
-    (λ (t : Bool). Holds ch (cond t (history es .count) (countAfter c (history es .count))) m (lineBy t ch c a (history es) ++ line ch es)) (sym e) g
-
-module _ (ch : ℕ) (es : List (Call × Answer)) (m : List ℕ) (g : Agrees (history es) m) (a : Spaces ch es m) where
+module _ (ch : ℕ) (es : List Telling) (m : List ℕ) (g : Agrees (history es) m) (a : Spaces ch es m) where
   abbrev h : History
   h = history es
 
@@ -89,14 +84,39 @@ module _ (ch : ℕ) (es : List (Call × Answer)) (m : List ℕ) (g : Agrees (his
   wide-accepts k e =
       record { each = a .each; mark = λ p q. rw (wide-others (g .sane) k e ch p (rw (g .count) q) messageMark (omega arith)) (a .mark p q) }
 
+-- a call on a channel that puts nothing on the line need not be told
+quiet-line : (k : ChannelCall) → Quiet k → (g : Given) (b : List ℕ) (l : List ℕ) → lineOf k (blockAnswer g k b) l ≡ []
+quiet-line (Settings (WriteSetting s v)) q g b l = absurd q
+quiet-line (Settings (ReadSetting s)) q g b l = refl
+quiet-line (Memories k) q g b l = refl
+quiet-line (Status k) q g b l = refl
+quiet-line (Tests k) q g b l = absurd q
+quiet-line (Reads k) q g b l = refl
+quiet-line (Receive k) q g b l = absurd q
+quiet-line (Transmit (WriteFifo w)) q g b l = absurd q
+quiet-line (Transmit (WriteAsync w)) q g b l = refl
+quiet-line (Transmit Trigger) q g b l = refl
+quiet-line (Transmit Pause) q g b l = refl
+quiet-line (Transmit Stop) q g b l = refl
+quiet-line (Transmit Step) q g b l = absurd q
+
+quietly : (ch : ℕ) (es : List Telling) (m : List ℕ) (ch′ : ℕ) (k : ChannelCall) → Quiet k → (g : Given) (b : List ℕ)
+    → Spaces ch (Performed (On ch′ k) (blockAnswer g k b) ∷ es) m → Spaces ch es m
+quietly ch es m ch′ k q g b = go (eqb ch′ ch)
+  where
+    go : (t : Bool) → Holds ch (history es .count) m (cond t (lineOf k (blockAnswer g k b) (history es .kept ch .settings)) [] ++ line ch es)
+        → Holds ch (history es .count) m (line ch es)
+    go true h = subst (λ (x : List Item). Holds ch (history es .count) m (x ++ line ch es)) (quiet-line k q g b (history es .kept ch .settings)) h
+    go false h = h
+
 pub spaces : (ch : ℕ) → Invariant (Spaces ch)
 spaces ch =
     record {
       first = λ n l r e. forgets ch n (powered n l ++ r) tt;
       power = λ es m p n l r e. forgets ch n (powered n l ++ r) (p .each);
-      refused = λ es m p c n. p;
-      on = λ es m g p x k e.
-          accepted ch (On x k) _ es _ (block-accepted k (blockAfter (givenOf x k m) k (block m x)) (block m x)) (on-accepted ch es m g p x k e (eqb x ch) refl);
-      wide = λ es m g p k e. accepted ch (Wide k) (wideAnswer k m) es (wideAfter k m) (wide-accepted k m) (wide-accepts ch es m g p k e);
+      silent = λ es m p. p;
+      on = λ es m g p x k e. on-accepted ch es m g p x k e (eqb x ch) refl;
+      wide = λ es m g p k e. wide-accepts ch es m g p k e;
       reset = λ es m g p e. forgets ch (history es .count) (moduleReset m) (p .each);
+      quiet = quietly ch;
     }

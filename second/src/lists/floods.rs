@@ -52,7 +52,10 @@ impl Writer {
                 57 | 58 => {
                     self.loose(WRITE_RECEIVE_MODE, channel, 0);
                     if self.dice.chance(50) {
-                        self.arrivals(channel, 1);
+                        for _ in 0..3 {
+                            let word = self.word_of_few();
+                            self.loose(ARRIVAL, channel, word);
+                        }
                     } else {
                         self.loose(MAILBOX_READ, channel, word % INDEXES as u32);
                     }

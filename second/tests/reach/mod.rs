@@ -5,6 +5,8 @@ use second::calls::Item;
 use second::compare::LIST_CALLS;
 use second::layout::*;
 use second::lists::{lists, Event, NINTH_BIT};
+use second::ops::{REGISTER_READ, REGISTER_WRITE};
+use second::registers::Register;
 use second::words;
 
 pub const CALLS: u64 = 200_000;
@@ -12,6 +14,8 @@ pub const CALLS: u64 = 200_000;
 /// A call with its answer, and the words that its rules speak of, before and after it.
 pub struct Seen {
     pub item: Item,
+    /// The channel that it names; of a module-wide call channel 1.
+    pub channel: u32,
     pub answer: Vec<u32>,
     pub before: Words,
     pub after: Words,
@@ -31,9 +35,9 @@ pub struct Words {
 }
 
 impl Words {
-    /// None where the memory has no such channel; a module-wide call is seen with channel 1.
+    /// None where no channel is named, or the memory has no such channel.
     pub fn of(mem: &[u32], item: Item) -> Option<Words> {
-        let channel = if item.op < 32 { 1 } else { item.channel };
+        let channel = channel_of(item)?;
         if mem.len() < MODULE_WORDS
             || !(1..=mem[COUNT].min(CHANNELS)).contains(&channel)
             || mem.len() < need(mem[COUNT])
@@ -51,6 +55,15 @@ impl Words {
             held: held(ch),
             marked: (1..=mem[COUNT]).filter(|&c| mem[block(c) + WORD_MARK] == 1).count(),
         })
+    }
+}
+
+/// The channel that a call or an access names; a module-wide call is seen with channel 1, and an access by mask with none.
+fn channel_of(item: Item) -> Option<u32> {
+    match item.op {
+        0..=31 => Some(1),
+        REGISTER_READ | REGISTER_WRITE => Register::at(item.a).ok()?.channel(),
+        _ => Some(item.channel),
     }
 }
 
@@ -151,7 +164,7 @@ impl Seen {
     }
 
     pub fn counter(&self) -> u32 {
-        self.before.part[COUNTERS + self.item.channel as usize - 1]
+        self.before.part[COUNTERS + self.channel as usize - 1]
     }
 
     pub fn sample(&self, result: u32) -> bool {
@@ -174,7 +187,7 @@ impl Seen {
             | u32::from(ch[RECEIVE_LEVEL] == ch[SIZE]) << 1
             | u32::from(ch[TRANSMIT_LEVEL] <= ch[ALMOST_EMPTY]) << 2
             | u32::from(ch[TRANSMIT_LEVEL] == 0) << 3
-            | u32::from(part[COUNTERS + self.item.channel as usize - 1] > part[THRESHOLD]) << 6
+            | u32::from(part[COUNTERS + self.channel as usize - 1] > part[THRESHOLD]) << 6
     }
 
     /// This condition holds after the call and did not before.
@@ -266,8 +279,29 @@ pub fn for_each_call(seed: u64, with_changes: bool, mut meet: impl FnMut(&Seen))
     });
 }
 
-/// Every call of the lists of a seed; with changes by others as `compare` runs them, else as `replay` does.
+/// Every call of the lists of a seed, with its answer and, where it finds and leaves a memory with its channel, what was seen.
 pub fn for_each_answer(seed: u64, with_changes: bool, mut meet: impl FnMut(Item, &[u32], Option<Seen>)) {
+    for_each_item(seed, with_changes, Words::of, |mem, item, answer, before| {
+        let channel = channel_of(item).unwrap_or(0);
+        let seen = (before.zip(Words::of(mem, item))).map(|(before, after)| Seen {
+            item,
+            channel,
+            answer: answer.to_vec(),
+            before,
+            after,
+        });
+        meet(item, answer, seen);
+    });
+}
+
+/// Every call of the lists of a seed; with changes by others as `compare` runs them, else as `replay` does. The first function sees
+/// the lent words before the call, and the second those after it, with the answer and what the first gave.
+pub fn for_each_item<T>(
+    seed: u64,
+    with_changes: bool,
+    mut before: impl FnMut(&[u32], Item) -> T,
+    mut after: impl FnMut(&[u32], Item, &[u32], T),
+) {
     let mut mem = vec![0; need(CHANNELS)];
     let mut calls = 0;
     for list in lists(seed, LIST_CALLS) {
@@ -278,13 +312,10 @@ pub fn for_each_answer(seed: u64, with_changes: bool, mut meet: impl FnMut(Item,
         for event in list.events {
             match event {
                 Event::Call(item) => {
-                    let before = Words::of(&mem[..lent], item);
+                    let found = before(&mem[..lent], item);
                     let Item { op, channel, a, b } = item;
                     let answer = words::perform(&mut mem[..lent], op, channel, a, b);
-                    let after = Words::of(&mem[..lent], item);
-                    let seen =
-                        before.zip(after).map(|(before, after)| Seen { item, answer: answer.clone(), before, after });
-                    meet(item, &answer, seen);
+                    after(&mem[..lent], item, &answer, found);
                     calls += 1;
                     if calls == CALLS {
                         return;

@@ -1,7 +1,7 @@
 -- `calls::answers::numbers_of` meets its contract: each answer is a case of the definition; a refusal's zeros and a step's four numbers by their laws.
 -- Assumes nothing.
 use mathlib.Core.Path.{refl}
-use Rattle.module.specs.Perform.{values}
+use Rattle.registers.specs.Access.{accessValues}
 use Rattle.calls.proofs.Listing.{refused, stepped}
 use borrow.Author.Needs.{needs}
 use Rattle.calls.proofs.answers.numbers_of.Statement.{statement}
@@ -11,7 +11,7 @@ returns : tie.Need-returns
 returns c = rw (c .enum-told .given .1) (refl, refl)
 
 returns-2 : tie.Need-returns-2
-returns-2 c = rw (c .before .before .answer .given .1) (refused (c .before .before .answer .given .0 .0) (values (c .before .before .before .before .args .call)) (c .values .result) (c .values .ensures))
+returns-2 c = rw (c .before .before .answer .given .1) (refused (c .before .before .answer .given .0 .0) (accessValues (c .before .before .before .before .args .access)) (c .values .result) (c .values .ensures))
 
 returns-3 : tie.Need-returns-3
 returns-3 c = rw (c .before .answer2 .given .1) (refl, refl)

@@ -11,4 +11,4 @@ unfolding decoded
 decode-spec =
     tie.close
     (tie.spec (λ c. search branches) (λ c. search branches) (λ c. search branches) (λ c κs. search needs) (λ c. search branches)
-    (λ c κs. search needs) (λ c. search branches) (λ c κs. search needs) (λ c. search branches) (λ c. search branches))
+    (λ c κs. search needs) (λ c. search branches) (λ c κs. search needs) (λ c. search branches) (λ c κs. search needs) (λ c. search branches))

@@ -10,5 +10,5 @@ pub setting-item-spec : {M : Type 1} → statement M
 unfolding settingItem
 setting-item-spec =
     tie.close
-    (tie.spec (λ c. search branches) (λ c κs. search needs) (λ c. search branches) (λ c. search branches) (λ c κs. search needs)
-    (λ c. search branches) (λ c. search branches))
+    (tie.spec (λ c. search branches) (λ c κs. search needs) (λ c. search (branches, c .setting-of .ensures)) (λ c. search branches) (λ c κs. search needs)
+    (λ c. search (branches, c .setting-of2 .ensures)) (λ c. search branches))

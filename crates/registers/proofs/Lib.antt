@@ -1,0 +1,4 @@
+pub mod Masks
+pub mod Addresses
+pub mod Values
+pub mod Places

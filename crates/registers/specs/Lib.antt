@@ -1,0 +1,5 @@
+pub mod Map
+pub mod Shown
+pub mod Turned
+pub mod Masked
+pub mod Access
