@@ -1,19 +1,19 @@
 -- The laws of blocks: what a block is made of, and that one block's change leaves the rest.
 -- Assumes nothing.
 use Prim.Native.Nat.{ℕ, _+_, _*_, _-_, _≤_, _<_}
-use mathlib.Core.Path.{_≡_, ap, _∙_}
+use mathlib.Core.Path.{_≡_, refl, sym, ap, _∙_}
 use mathlib.Core.List.{List, _++_}
 use native.Mathlib.Decide.{decLt}
 use native.Mathlib.Nat.{add-sub-cancel-left}
 use native.Mathlib.Omega.{arith}
 use lib.ListN.{length, take, drop, set, length-take, length-drop, List·getD-append}
-use lib.Seq.{getD-take, drop-set-lt, drop-drop}
+use lib.Seq.{getD-take, set-append-left, take-set-lt, drop-set-lt, drop-drop}
 use borrow.Rule.Slice.PartMut.{putMid}
 use Rattle.block.specs.Layout.{word, blockWords}
 use Rattle.block.specs.Ranges.{Usable}
 use Rattle.frame.specs.Layout.{count, moduleWords, Framed, base, block, withBlock}
 use Rattle.frame.specs.Refusals.{addressRefusal}
-use Rattle.frame.proofs.Parts.{part-back, splice-length, part-same, part-below, part-above}
+use Rattle.frame.proofs.Parts.{part-back, splice-length, part-same, part-below, part-above, splice-comm}
 use Rattle.frame.proofs.Refused.{Standing, standing, addressed}
 
 -- a block as the code cuts it, and as the cut comes back
@@ -91,3 +91,22 @@ module _ (m b : List ℕ) (ch : ℕ) (long : length b ≡ blockWords) (room : ba
       go : Dec (ch < ch′) → block (withBlock m ch b) ch′ ≡ block m ch′
       go (yes lt) = part-above (base ch) blockWords b m long room (base ch′) blockWords (omega arith)
       go (no ge) = part-below (base ch) blockWords b m long room (base ch′) blockWords (omega arith)
+
+-- a store before a block, in either order
+pub with-set : (m b : List ℕ) (ch i x : ℕ) → i < base ch → base ch ≤ length m → set (withBlock m ch b) i x ≡ withBlock (set m i x) ch b
+unfolding withBlock
+with-set m b ch i x h room =
+    let l : i < length (take (base ch) m) = simp length-take (omega arith) in
+    set-append-left (take (base ch) m) _ i x l
+    ∙ rw (take-set-lt (base ch) m i x h, drop-set-lt (base ch) m i x h) refl
+
+-- the blocks of two channels, in either order
+pub with-comm : (m b c : List ℕ) (ch ch′ : ℕ) → length b ≡ blockWords → length c ≡ blockWords → base ch + blockWords ≤ length m
+    → base ch′ + blockWords ≤ length m → 1 ≤ ch → 1 ≤ ch′ → (ch ≡ ch′ → ⊥)
+    → withBlock (withBlock m ch b) ch′ c ≡ withBlock (withBlock m ch′ c) ch b
+unfolding withBlock
+with-comm m b c ch ch′ p q r s low low′ ne = go (decLt ch ch′)
+  where
+    go : Dec (ch < ch′) → withBlock (withBlock m ch b) ch′ c ≡ withBlock (withBlock m ch′ c) ch b
+    go (yes lt) = splice-comm (base ch) blockWords (base ch′) blockWords b c m p (omega arith) (omega arith)
+    go (no ge) = sym (splice-comm (base ch′) blockWords (base ch) blockWords c b m q (omega arith) (omega arith))

@@ -1,7 +1,7 @@
 -- A part of a list, and the list with another part in its place: both go by the front or by the back of a list that is put together.
 -- Assumes nothing.
 use Prim.Native.Nat.{ℕ, _+_, _-_, _≤_}
-use mathlib.Core.Path.{_≡_, refl, sym, ap, _∙_}
+use mathlib.Core.Path.{_≡_, refl, sym, ap, _∙_, subst}
 use mathlib.Core.List.{List, _++_, append-assoc}
 use native.Mathlib.Omega.{arith}
 use lib.ListN.{length, take, drop, length-take, length-drop, length-append, take-append-drop}
@@ -56,3 +56,19 @@ module _ (at n : ℕ) (b m : List ℕ) (long : length b ≡ n) (h : at + n ≤ l
       ∙ part-back at′ k n′ (take at m ++ b) (drop (at + n) m) e₁
       ∙ sym (part-back at′ k n′ (take (at + n) m) (drop (at + n) m) e₂)
       ∙ ap (part at′ n′) (take-append-drop (at + n) m)
+
+-- two parts that do not meet, in either order
+comm-at : (at n at′ n′ : ℕ) (b b′ l r : List ℕ) → length b ≡ n → at + n ≤ at′ → at′ ≡ length l
+    → splice at′ n′ b′ (splice at n b (l ++ r)) ≡ splice at n b (splice at′ n′ b′ (l ++ r))
+comm-at at n at′ n′ b b′ l r long d e =
+    let fits : at + n ≤ length l = omega arith in
+    ap (splice at′ n′ b′) (splice-front at n l r fits b)
+    ∙ splice-back at′ 0 n′ b′ (splice at n b l) r (omega (arith, splice-length at n b l long fits))
+    ∙ sym (splice-front at n l (splice 0 n′ b′ r) fits b)
+    ∙ ap (splice at n b) (sym (splice-back at′ 0 n′ b′ l r (omega arith)))
+
+pub splice-comm : (at n at′ n′ : ℕ) (b b′ m : List ℕ) → length b ≡ n → at + n ≤ at′ → at′ ≤ length m
+    → splice at′ n′ b′ (splice at n b m) ≡ splice at n b (splice at′ n′ b′ m)
+splice-comm at n at′ n′ b b′ m long d h =
+    subst (λ (x : List ℕ). splice at′ n′ b′ (splice at n b x) ≡ splice at n b (splice at′ n′ b′ x)) (take-append-drop at′ m)
+    (comm-at at n at′ n′ b b′ (take at′ m) (drop at′ m) long d (sym (length-take-le at′ m h)))

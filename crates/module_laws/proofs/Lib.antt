@@ -8,3 +8,4 @@ pub mod Reset
 pub mod Lent
 pub mod Beyond
 pub mod Layouts
+pub mod Lens

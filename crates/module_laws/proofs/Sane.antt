@@ -10,6 +10,7 @@ use lib.ListN.{length}
 use Rattle.block.specs.Layout.{word}
 use Rattle.frame.specs.Layout.{count, moduleWords, most, need, Framed}
 use Rattle.frame.specs.Refusals.{frameOf, frameRefusal, partRefusal, channelOf, addressRefusal, soundTo, wideRefusal}
+use Rattle.frame.proofs.Refused.{Standing}
 use Rattle.module_laws.specs.Sane.{Sane}
 
 not-short : (n k : ℕ) → Framed n k → frameOf n k ≡ 0
@@ -22,10 +23,14 @@ on-count : (part k ch : ℕ) (ok : Bool) → part ≡ 0 → 1 ≤ ch → ch ≤ 
 unfolding channelOf
 on-count part k ch ok z l h e = rw (eq-eqb part 0 z, le-ltb ch 1 l, le-ltb k ch h, e) refl
 
+-- a memory that stands is not refused for its module part
+pub standing-part : {m : List ℕ} → Standing m → partRefusal m ≡ 0
+unfolding partRefusal
+standing-part {m} s = rw (eq-eqb (frameRefusal m) 0 (not-short (length m) (word m count) (s .frame)), s .part) refl
+
 module _ {m : List ℕ} (s : Sane m) where
   pub sane-part : partRefusal m ≡ 0
-  unfolding partRefusal
-  sane-part = rw (eq-eqb (frameRefusal m) 0 (not-short (length m) (word m count) (s .frame)), s .part) refl
+  sane-part = standing-part (record { frame = s .frame; part = s .part })
 
   pub sane-address : {ch : ℕ} → 1 ≤ ch → ch ≤ word m count → addressRefusal m ch ≡ 0
   sane-address {ch} l h = on-count (partRefusal m) (word m count) ch _ sane-part l h (s .usable ch l h .sound)
