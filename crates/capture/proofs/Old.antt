@@ -1,15 +1,12 @@
 -- An old reader answers 22 to kind 3, and to every other kind what is answered now.
 -- Assumes nothing.
 use Prim.Native.Nat.{ℕ, _-_, _≤_}
-use mathlib.Core.Path.{_≡_, refl, sym, ap}
-use mathlib.Core.Bool.{Bool, true, cond}
-use mathlib.Core.List.{List}
+use mathlib.Core.Path.{_≡_, refl}
 use native.Mathlib.Omega.{arith}
-use borrow.Author.Tests.{eq-eqb, ne-eqb, le-ltb}
-use lib.Dec.{eqb, ltb}
+use borrow.Author.Tests.{ne-eqb, le-ltb}
 use lib.ListN.{length}
-use Rattle.capture.specs.Format.{arrival, oldImage, oldImageCommands, image, imageCommands, commandsOf, known, lengthOf, half, whole}
-use Rattle.capture.specs.Read.{lengthAt, kindAt, channelAt, cutOf, kindRefusal, channelRefusal, orElse, refusalAt}
+use Rattle.capture.specs.Format.{image, commandsOf, known, lengthOf, half}
+use Rattle.capture.specs.Read.{lengthAt, kindAt, cutOf, kindRefusal, refusalAt}
 use Rattle.capture.specs.Old.{oldCommandsOf, oldKnown, oldLengthOf, oldKindRefusal, oldRefusalAt, OldReader}
 use Rattle.capture.proofs.Sizes.{covers}
 use Rattle.capture.proofs.Sound.{sound}

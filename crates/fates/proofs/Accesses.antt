@@ -36,10 +36,10 @@ use Rattle.fates.proofs.Steps.{callStep, silent, lent-step}
 
 -- ---- a call that changes nothing that a history keeps
 
-quiet-kept : (h : History) (ch ch′ : ℕ) (k : ChannelCall) (a : Answer) → Quiet k → (t : Bool)
+quiet-kept : (h : History) (ch : ℕ) (k : ChannelCall) (a : Answer) → Quiet k → (t : Bool)
     → keptBy _+_ (cond t (effect (h .part .stamp) k a (h .kept ch .settings)) (nothing (h .kept ch .settings))) (h .kept ch) ≡ h .kept ch
-quiet-kept h ch ch′ k a q true = ap (λ (e : Effect). keptBy _+_ e (h .kept ch)) (quiet-effect (h .part .stamp) k a (h .kept ch .settings) q)
-quiet-kept h ch ch′ k a q false = refl
+quiet-kept h ch k a q true = ap (λ (e : Effect). keptBy _+_ e (h .kept ch)) (quiet-effect (h .part .stamp) k a (h .kept ch .settings) q)
+quiet-kept h ch k a q false = refl
 
 quiet : {h : History} {m : List ℕ} (ch : ℕ) (k : ChannelCall) (a : Answer) → Quiet k → Agrees (callStep (On ch k) a h) m → Agrees h m
 quiet {h} {m} ch k a q g = go (isRefused a) g
@@ -51,7 +51,7 @@ quiet {h} {m} ch k a q g = go (isRefused a) g
           sane = g .sane;
           count = g .count;
           part = g .part;
-          kept = λ x low high. subst (λ y. keptOf (block m x) ≡ reduced y) (quiet-kept h x ch k a q (eqb ch x)) (g .kept x low high);
+          kept = λ x low high. subst (λ y. keptOf (block m x) ≡ reduced y) (quiet-kept h x k a q (eqb ch x)) (g .kept x low high);
         }
 
 module _ {h : History} (r : List ℕ) where

@@ -41,7 +41,7 @@ use Rattle.registers.specs.declared.accesses.Access.the-variants.{Direct, ReadR
 use Rattle.registers.specs.declared.turned.Turned.{Turned}
 use Rattle.registers.specs.declared.turned.Turned.the-variants.{NotTurned, OneCall, EachNamed}
 use Rattle.module_laws.specs.Reduced.{reduced}
-use Rattle.fates.specs.History.{History, Telling, Silent, Performed, writeTells, tells, acceptedEffect, effectOn, history}
+use Rattle.fates.specs.History.{History, Telling, Silent, Performed, writeTells, tells, effectOn, history}
 use Rattle.fates.specs.Ledger.{Side, Receiving, Transmitting, fifoOf, changeOf, aside, Fits}
 use Rattle.fates.specs.Answers.{needOf, isOutside, CallTold, CallAnswered, Answered}
 use Rattle.fates.specs.Theorem.{Every}

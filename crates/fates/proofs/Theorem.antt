@@ -16,11 +16,9 @@ use Rattle.channel_calls.specs.Answers.{isRefused}
 use Rattle.channel_calls.specs.declared.calls.ReadCall.the-variants.{ReadCounts, ReadReceiveLevel, ReadTransmitLevel}
 use Rattle.channel_calls.specs.declared.calls.ChannelCall.{ChannelCall}
 use Rattle.channel_calls.specs.declared.calls.ChannelCall.the-variants.{Reads}
-use Rattle.channel_calls.specs.declared.calls.Answer.{Answer}
 use Rattle.channel_calls.specs.declared.calls.Answer.the-variants.{Done, Refused, Value, Fates}
 use Rattle.frame.specs.Layout.{count, need, block}
 use Rattle.power.specs.Power.{powerRefusal, powered}
-use Rattle.module.specs.declared.calls.Call.{Call}
 use Rattle.module.specs.declared.calls.Call.the-variants.{PowerUp, Reset, Wide, On}
 use Rattle.registers.specs.Access.{accessAnswer}
 use Rattle.registers.specs.declared.accesses.Access.{Access}

@@ -26,7 +26,7 @@ use Rattle.module.specs.declared.calls.Call.{Call}
 use Rattle.module.specs.declared.calls.Call.the-variants.{PowerUp, Reset, Wide, On}
 use Rattle.module_laws.proofs.OnChannel.{on-word, on-other}
 use Rattle.module_laws.proofs.Beyond.{beyond, same-length}
-use Rattle.registers.specs.Access.{turnedAnswer, turnedAfter, accessAnswer, accessAfter}
+use Rattle.registers.specs.Access.{turnedAnswer, turnedAfter}
 use Rattle.registers.specs.Shown.{shown}
 use Rattle.registers.specs.Turned.{readTurned, writeTurned}
 use Rattle.registers.specs.Masked.{controlCall, isNamed, triedOn, triedTo, refusedTo, maskedAfter}

@@ -1,12 +1,11 @@
 -- Accesses that name different channels do the same in either order.
 -- Assumes nothing.
 use Prim.Native.Nat.{ℕ}
-use mathlib.Core.Path.{_≡_, refl, sym, ap, _∙_, subst}
+use mathlib.Core.Path.{_≡_, refl, sym, ap, _∙_}
 use mathlib.Core.List.{List}
 use Rattle.channel_calls.specs.declared.calls.Answer.{Answer}
 use Rattle.channel_calls.specs.declared.calls.ChannelCall.{ChannelCall}
 use Rattle.module.specs.OnChannel.{onAnswer, onAfter}
-use Rattle.module.specs.declared.calls.Call.{Call}
 use Rattle.module.specs.declared.calls.Call.the-variants.{PowerUp, Reset, Wide, On}
 use Rattle.module_laws.proofs.Lens.{stays, same-answer, in-either-order}
 use Rattle.registers.specs.Access.{turnedAnswer, turnedAfter, accessAnswer, accessAfter}
@@ -16,7 +15,7 @@ use Rattle.registers.specs.declared.accesses.Access.{Access}
 use Rattle.registers.specs.declared.accesses.Access.the-variants.{Direct, ReadRegister, WriteRegister}
 use Rattle.registers.specs.declared.turned.Turned.{Turned}
 use Rattle.registers.specs.declared.turned.Turned.the-variants.{NotTurned, OneCall, EachNamed}
-use Rattle.independence.specs.Names.{CallNames, TurnedNames, Names}
+use Rattle.independence.specs.Names.{TurnedNames, Names}
 use Rattle.independence.specs.Theorem.{InEitherOrder, ChannelsApart}
 
 -- ---- what an access that names a channel does

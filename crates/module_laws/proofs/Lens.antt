@@ -1,25 +1,23 @@
 -- The laws of a channel's share: a call goes by it, a call on one channel leaves another's, and what two put back can be put in either order.
 -- Assumes nothing.
-use Prim.Native.Nat.{ℕ, zero, suc, _+_, _≤_, _<_}
-use mathlib.Core.Path.{_≡_, refl, sym, ap, _∙_, subst}
+use Prim.Native.Nat.{ℕ, _+_, _≤_}
+use mathlib.Core.Path.{_≡_, refl, sym, ap, _∙_}
 use mathlib.Core.Bool.{Bool, true, false, cond, true≢false}
 use mathlib.Core.List.{List}
-use native.Mathlib.Decide.{decLt}
 use native.Mathlib.Omega.{arith}
-use borrow.Author.Tests.{eqb-true, eqb-false, ltb-false}
+use borrow.Author.Tests.{eqb-true, ltb-false}
 use lib.Dec.{eqb, ltb}
 use lib.ListN.{length, set, length-set}
 use lib.Seq.{set-comm}
 use Rattle.block.specs.Layout.{word, blockWords}
-use Rattle.block.specs.Ranges.{sound}
 use Rattle.block.specs.Refusals.{first, leaveUnless}
 use Rattle.channel_calls.specs.declared.calls.Answer.the-variants.{Refused}
 use Rattle.channel_calls.specs.declared.calls.ChannelCall.{ChannelCall}
 use Rattle.channel.specs.Channel.{blockAnswer}
-use Rattle.frame.specs.Layout.{count, stamp, threshold, moduleWords, most, base, block, withBlock}
+use Rattle.frame.specs.Layout.{count, stamp, threshold, most, base, block, withBlock}
 use Rattle.frame.specs.Refusals.{partRefusal, channelOf}
 use Rattle.frame.proofs.Refused.{standing}
-use Rattle.frame.proofs.Blocks.{Within, with-set, with-comm}
+use Rattle.frame.proofs.Blocks.{with-set, with-comm}
 use Rattle.module.specs.OnChannel.{onRefusal, counterAt, acceptedAfter, onAnswer, onAfter}
 use Rattle.module_laws.specs.Lens.{Share, seen, put, refusalBy, givenBy, answerBy, acceptedBy, afterBy}
 use Rattle.module_laws.proofs.Sane.{standing-part}

@@ -1,8 +1,7 @@
 -- What is written to a register is read from it again: rate, async, schedule RAM and message RAM each have their own place.
 -- Assumes nothing.
 use Prim.Native.Nat.{ℕ, _+_, _<_, _≤_}
-use mathlib.Core.Path.{_≡_, refl, sym, ap, _∙_}
-use mathlib.Core.Logic.{_≢_}
+use mathlib.Core.Path.{_≡_, refl, ap, _∙_}
 use mathlib.Core.Bool.{Bool, true, false, cond, true≢false}
 use mathlib.Core.List.{List}
 use native.Mathlib.Omega.{arith}
@@ -24,7 +23,6 @@ use Rattle.channel_calls.specs.declared.calls.ReadCall.the-variants.{ReadAsync}
 use Rattle.channel_calls.specs.declared.calls.TransmitCall.the-variants.{WriteAsync}
 use Rattle.channel_calls.specs.declared.calls.ChannelCall.{ChannelCall}
 use Rattle.channel_calls.specs.declared.calls.ChannelCall.the-variants.{Settings, Memories, Reads, Transmit}
-use Rattle.channel_calls.specs.declared.calls.Answer.{Answer}
 use Rattle.channel_calls.specs.declared.calls.Answer.the-variants.{Refused, Value}
 use Rattle.frame.specs.Layout.{count, block}
 use Rattle.frame.specs.Refusals.{channelOf}

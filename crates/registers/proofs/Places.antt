@@ -2,7 +2,7 @@
 -- Assumes nothing.
 use Prim.Native.Nat.{ℕ, _^_}
 use mathlib.Core.Path.{_≡_, refl}
-use mathlib.Core.List.{List, [], _∷_, map}
+use mathlib.Core.List.{[], _∷_, map}
 use Rattle.registers.specs.Shown.{statusBits}
 
 -- each of the conditions 0 to 6 alone: D1, D2, D5, D4, D7, D10 and D9

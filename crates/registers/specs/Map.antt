@@ -5,7 +5,6 @@ use mathlib.Core.Bool.{cond}
 use lib.Dec.{eqb, ltb, leb}
 use Rattle.schedule.specs.Codes.{messages, commands}
 use Rattle.frame.specs.Layout.{most}
-use Rattle.registers.specs.declared.map.Control.{Control}
 use Rattle.registers.specs.declared.map.Control.the-variants.{TriggerEach, PauseEach, StopEach}
 use Rattle.registers.specs.declared.map.Register.{Register}
 use Rattle.registers.specs.declared.map.Register.the-variants.{NoRegister, RateOf, AsyncOf, StatusOf, ScheduleOf, MessageOf, ControlOf}

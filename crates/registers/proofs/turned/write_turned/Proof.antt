@@ -1,6 +1,5 @@
 -- `registers::turned::write_turned` meets its contract: each branch is a case of the definition.
 -- Assumes nothing.
-use mathlib.Core.Path.{ap, _∙_}
 use borrow.Author.Needs.{needs}
 use Rattle.word.proofs.Branches.{branches}
 use Rattle.registers.specs.Turned.{writeTurned}
