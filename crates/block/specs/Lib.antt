@@ -1,13 +1,4 @@
 pub mod Layout
 pub mod Modes
-pub mod Counts
 pub mod Ranges
-pub mod Factory
-pub mod Clearing
-pub mod Settings
-pub mod Mailboxes
-pub mod Matching
-pub mod Memories
-pub mod Fifos
-pub mod Kept
 pub mod Refusals

@@ -2,8 +2,8 @@
 use Prim.Native.Nat.{ℕ}
 use mathlib.Core.List.{List, [], _∷_}
 use Rattle.registers.specs.Access.{accessAnswer, accessAfter, accessNumbers}
-use Rattle.calls.specs.declared.items.Item.{Item}
-use Rattle.calls.specs.declared.items.Item.the-variants.{NoCall, Asked}
+use Rattle.items.specs.declared.Item.{Item}
+use Rattle.items.specs.declared.Item.the-variants.{NoCall, Asked}
 
 -- 42 for an item that is no call
 abbrev pub itemNumbers : Item → List ℕ → List ℕ

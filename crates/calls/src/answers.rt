@@ -1,9 +1,9 @@
 // An answer as a list of numbers: the answer's number, then its values.
+use arrival::Arrival;
 use channel_calls::calls::Answer;
-use receive::Arrival;
 use registers::accesses::Access;
 ghost use mathlib.Core.Path.{_≡_};
-ghost use Rattle.receive.specs.Arrival.{outcome};
+ghost use Rattle.arrival.specs.Arrival.{outcome};
 ghost use Rattle.registers.specs.Access.{accessNumbers};
 ghost use Rattle.calls.specs.Listed.{Lists};
 

@@ -1,5 +1,4 @@
 // Accesses as items of four words, and their answers as lists of numbers.
 pub mod answers;
-pub mod items;
 pub mod perform;
 pub mod values;

@@ -1,8 +1,8 @@
 // One item performed on a module's lent memory.
 use crate::answers::Numbers;
-use crate::items::Item;
+use items::Item;
 ghost use mathlib.Core.Path.{_≡_};
-ghost use Rattle.calls.specs.Items.{decoded};
+ghost use Rattle.items.specs.Items.{decoded};
 ghost use Rattle.calls.specs.Listed.{Lists};
 ghost use Rattle.calls.specs.Performed.{itemNumbers, itemAfter};
 
@@ -13,7 +13,7 @@ pub const NO_CALL: u32 = 42;
 pub fn perform_item(mem: &mut [u32], op: u32, channel: u32, a: u32, b: u32) -> Numbers
     ensures { λ r. ⌜ (Lists r (itemNumbers (decoded op channel a b) (now (mem .entry)))) × (now (mem .exit) ≡ itemAfter (decoded op channel a b) (now (mem .entry))) ⌝ }
 {
-    let item = crate::items::decode(op, channel, a, b);
+    let item = items::decode(op, channel, a, b);
     match item {
         Item::NoCall => Numbers {
             count: 1,

@@ -1,3 +1,3 @@
 pub mod Signals
 pub mod Performed
-pub mod Told
+pub mod Answered

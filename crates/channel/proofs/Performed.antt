@@ -4,7 +4,8 @@ use Prim.Native.Nat.{ℕ, _+_}
 use mathlib.Core.Path.{_≡_, ap, ap₂, _∙_}
 use mathlib.Core.List.{List}
 use Rattle.status.specs.Status.{holding, ruled}
-use Rattle.channel.specs.Channel.{didAnswer, didLeave, didSignal, answerShown, blockAnswer, blockAfter}
+use Rattle.channel_groups.specs.Groups.{didAnswer, didLeave, didSignal}
+use Rattle.channel.specs.Channel.{answerShown, blockAnswer, blockAfter}
 use Rattle.channel_calls.specs.declared.calls.ChannelCall.{ChannelCall}
 use Rattle.channel_calls.specs.declared.calls.Given.{Given}
 use Rattle.channel_calls.specs.declared.calls.Answer.{Answer}

@@ -10,8 +10,8 @@ use Rattle.status.specs.Status.{interruptSignal}
 use Rattle.receive.proofs.Laws.{arrive-signal}
 use Rattle.schedule.proofs.Laws.{step-signal}
 use Rattle.transmit.specs.Step.{place, command, message, scheduledOutcome, scheduledSignal, stepSignal}
-use Rattle.channel.specs.Groups.{receiveSignal, transmitSignal}
-use Rattle.channel.specs.Channel.{didSignal}
+use Rattle.channel_groups.specs.Groups.{receiveSignal, transmitSignal}
+use Rattle.channel_groups.specs.Groups.{didSignal}
 use Rattle.channel_calls.specs.declared.calls.ReceiveCall.{ReceiveCall}
 use Rattle.channel_calls.specs.declared.calls.ReceiveCall.the-variants.{Arrive, ReadFifo, ReadMailbox}
 use Rattle.channel_calls.specs.declared.calls.TransmitCall.{TransmitCall}

@@ -1,3 +1,1 @@
-pub mod Groups
 pub mod Channel
-pub mod Told

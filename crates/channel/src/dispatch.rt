@@ -1,21 +1,22 @@
 // A call on one channel: the dispatch, and the status rule in one place.
-use crate::masks::on_status;
-use crate::memories::on_memory;
-use crate::reads::on_read;
-use crate::receiving::on_receive;
-use crate::settings::on_setting;
-use crate::tests::on_test;
-use crate::transmitting::on_transmit;
 use channel_calls::calls::Answer;
 use channel_calls::calls::ChannelCall;
 use channel_calls::calls::Did;
 use channel_calls::calls::Given;
+use channel_groups::memory_calls::on_memory;
+use channel_groups::read_calls::on_read;
+use channel_groups::receive_calls::on_receive;
+use channel_groups::setting_calls::on_setting;
+use channel_groups::status_calls::on_status;
+use channel_groups::test_calls::on_test;
+use channel_groups::transmit_calls::on_transmit;
 ghost use mathlib.Core.Path.{_≡_};
 ghost use Prim.Native.Nat.{_≤_};
 ghost use Rattle.block.specs.Layout.{Whole};
 ghost use Rattle.block.specs.Ranges.{Usable};
 ghost use Rattle.channel_calls.specs.Refusals.{channelRefusal};
-ghost use Rattle.channel.specs.Channel.{didAnswer, didLeave, didSignal, answerShown, blockAnswer, blockAfter};
+ghost use Rattle.channel_groups.specs.Groups.{didAnswer, didLeave, didSignal};
+ghost use Rattle.channel.specs.Channel.{answerShown, blockAnswer, blockAfter};
 
 // An answer that signals nothing.
 fn quiet(answer: Answer) -> Did
@@ -49,7 +50,7 @@ fn show(block: &[u32], call: ChannelCall, answer: Answer) -> Answer
     ensures { λ r. ⌜ r ≡ answerShown call (now (block .entry)) answer ⌝ }
 {
     match call {
-        ChannelCall::Status(k) => crate::masks::show(block, k, answer),
+        ChannelCall::Status(k) => channel_groups::status_calls::show(block, k, answer),
         ChannelCall::Settings(_) => answer,
         ChannelCall::Memories(_) => answer,
         ChannelCall::Tests(_) => answer,

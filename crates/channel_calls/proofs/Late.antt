@@ -9,7 +9,7 @@ use lib.Dec.{eqb, ltb}
 use Rattle.block.specs.Layout.{word, receiveSize, receiveLevel}
 use Rattle.block.specs.Ranges.{inRange}
 use Rattle.block.specs.Refusals.{first}
-use Rattle.block.specs.Settings.{settingRefusal}
+use Rattle.settings.specs.Settings.{settingRefusal}
 use Rattle.channel_calls.specs.Answers.{settingNumber}
 use Rattle.channel_calls.specs.Refusals.{above, below, settingCallRefusal, memoryCallRefusal, statusCallRefusal, testCallRefusal, receiveCallRefusal, transmitCallRefusal, channelRefusal}
 use Rattle.channel_calls.specs.declared.calls.SettingCall.{SettingCall}

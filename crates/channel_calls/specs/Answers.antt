@@ -5,7 +5,7 @@ use mathlib.Core.Bool.{Bool, true, false, cond}
 use lib.Dec.{eqb}
 use lib.ListN.{replicate}
 use Rattle.block.specs.Layout.{receiver, transmitter, parity, matching, stamps, receiveMode, fifoKind, transmitMode, receiveSize, almostFull, almostEmpty, rate}
-use Rattle.receive.specs.Arrival.{outcome}
+use Rattle.arrival.specs.Arrival.{outcome}
 use Rattle.schedule.specs.Output.{values}
 use Rattle.channel_calls.specs.declared.calls.Setting.{Setting}
 use Rattle.channel_calls.specs.declared.calls.Setting.the-variants.{Receiver, Transmitter, Parity, Match, Stamps, ReceiveMode, FifoKind, TransmitMode, ReceiveSize, AlmostFull, AlmostEmpty, Rate}

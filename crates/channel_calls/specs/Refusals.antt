@@ -9,7 +9,7 @@ use Rattle.block.specs.Layout.{word, receiveLevel, transmitLevel, transmitMode,
 use Rattle.block.specs.Modes.{scheduled}
 use Rattle.block.specs.Ranges.{allConditions}
 use Rattle.block.specs.Refusals.{first}
-use Rattle.block.specs.Settings.{settingRefusal}
+use Rattle.settings.specs.Settings.{settingRefusal}
 use Rattle.channel_calls.specs.Answers.{settingNumber}
 use Rattle.channel_calls.specs.declared.calls.SettingCall.{SettingCall}
 use Rattle.channel_calls.specs.declared.calls.SettingCall.the-variants.{WriteSetting, ReadSetting}

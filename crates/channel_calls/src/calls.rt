@@ -1,5 +1,5 @@
 // The calls on a channel and their answers, as values.
-use receive::Arrival;
+use arrival::Arrival;
 use schedule::Output;
 
 // The twelve settings, in the order of their numbers.

@@ -76,7 +76,7 @@ fn setting_refusal(block: &[u32], call: SettingCall) -> u32
     ensures { λ r. ⌜ r ≡ settingCallRefusal call (now (block .entry)) ⌝ }
 {
     match call {
-        SettingCall::WriteSetting(setting, value) => block::settings::write_refusal(
+        SettingCall::WriteSetting(setting, value) => settings::writing::write_refusal(
             block,
             setting_number(setting),
             value,

@@ -10,19 +10,20 @@ use lib.ListN.{take, set}
 use Rattle.ring.specs.Ring.{slots, lastSlot}
 use Rattle.block.specs.Layout.{word, settings, receiveLevel, receiveOverwritten, transmitMode, transmitLevel, latch, enable, levelMask}
 use Rattle.block.specs.Ranges.{allConditions, leasts, greatests, Usable}
-use Rattle.block.specs.Clearing.{stopped, unmarked}
+use Rattle.fifos.specs.Clearing.{stopped, unmarked}
 use Rattle.block.specs.Modes.{scheduled}
-use Rattle.block.specs.Counts.{counted}
-use Rattle.block.specs.Matching.{matchAt}
+use Rattle.fifos.specs.Counts.{counted}
+use Rattle.memories.specs.Matching.{matchAt}
 use Rattle.status.specs.Status.{ruled, faultWeight}
-use Rattle.status.specs.Tests.{fifosCleared, tested}
-use Rattle.block.specs.Fifos.{receiveOffsets, transmitOffsets, Fifo, fifo, gives, Change, Stays, Adds, Takes, Clears, changed, overwrittenAfter}
+use Rattle.restart.specs.Tests.{fifosCleared, tested}
+use Rattle.fifos.specs.Fifos.{receiveOffsets, transmitOffsets, Fifo, fifo, gives, Change, Stays, Adds, Takes, Clears, changed, overwrittenAfter}
 use Rattle.block.proofs.Sound.{in-range}
-use Rattle.block.proofs.Keeps.{stop-keeps, settable, write-keeps}
-use Rattle.status.proofs.Keeps.{rule-keeps, clear-keeps, test-keeps}
-use Rattle.receive.specs.Arrival.{arrival}
+use Rattle.settings.proofs.Keeps.{stop-keeps, settable, write-keeps}
+use Rattle.status.proofs.Keeps.{rule-keeps, clear-keeps}
+use Rattle.restart.proofs.Restarts.{test-keeps}
+use Rattle.arrival.specs.Arrival.{arrival}
 use Rattle.receive.specs.Entries.{entryOf}
-use Rattle.block.specs.Mailboxes.{mailboxAt}
+use Rattle.fifos.specs.Mailboxes.{mailboxAt}
 use Rattle.receive.specs.Fates.{arrivalChange}
 use Rattle.receive.proofs.Laws.{Leaves as ReceiveLeaves, entry-by-settings, arrive-keeps, arrive-leaves, arrive-fifo, arrive-overwritten, read-keeps, read-leaves, read-fifo, read-overwritten}
 use Rattle.transmit.proofs.Laws.{Leaves as TransmitLeaves, write-keeps as fifo-write-keeps, write-accepts, async-keeps, async-fifo, trigger-keeps, trigger-fifo, pause-keeps, pause-fifo, step-keeps, step-fifo, scheduled-gives-none}
@@ -32,7 +33,7 @@ use Rattle.schedule.specs.declared.Output.the-variants.{Quiet, FifoWord, Messag
 use Rattle.transmit.specs.Step.{stepOutput}
 use Rattle.channel_calls.specs.Answers.{settingNumber}
 use Rattle.channel_calls.specs.Refusals.{settingCallRefusal, statusCallRefusal, receiveCallRefusal, transmitCallRefusal, channelRefusal}
-use Rattle.channel.specs.Groups.{settingAfter, memoryAfter, statusAfter, testAfter, receiveAnswer, receiveAfter, transmitAnswer, transmitAfter}
+use Rattle.channel_groups.specs.Groups.{settingAfter, memoryAfter, statusAfter, testAfter, receiveAnswer, receiveAfter, transmitAnswer, transmitAfter}
 use Rattle.channel.specs.Channel.{blockAfter, blockAnswer}
 use Rattle.channel_calls.proofs.Accepted.{not-above, not-below, setting-in}
 use Rattle.channel_calls.specs.declared.calls.SettingCall.{SettingCall}
@@ -51,7 +52,7 @@ use Rattle.channel_calls.specs.declared.calls.ChannelCall.{ChannelCall}
 use Rattle.channel_calls.specs.declared.calls.ChannelCall.the-variants.{Settings, Memories, Status, Tests, Reads, Receive, Transmit}
 use Rattle.channel_calls.specs.declared.calls.Given.{Given}
 use Rattle.channel_calls.specs.declared.calls.Answer.{Answer}
-use Rattle.block.specs.Kept.{Kept, keptOf, keptBy, effectOf}
+use Rattle.settings.specs.Kept.{Kept, keptOf, keptBy, effectOf}
 use Rattle.channel_laws.specs.Effects.{readChange, outputChange, effect}
 use Rattle.channel_laws.proofs.Holds.{Holds, here, parts, kept-setting, store-kept, stored, same-settings}
 use Rattle.channel_laws.proofs.Changes.{stop-kept, unmark-kept, both-clear-kept, write-kept}

@@ -10,16 +10,16 @@ use lib.Dec.{eqb}
 use lib.ListN.{length, take, set}
 use lib.Seq.{sets, getD-set-other, take-set-le, take-set-lt, set-getD}
 use Rattle.block.specs.Layout.{word, settings, receiveMode, transmitMode, transmitter, receiveLevel, receiveCleared, receiveOverwritten, transmitLevel, transmitCleared, state, address, asyncMark, messageMark, Whole}
-use Rattle.block.specs.Mailboxes.{unlisted}
-use Rattle.block.specs.Clearing.{cleared, receiveFifoCleared, transmitFifoCleared, stopped, unmarked, forgotten}
-use Rattle.block.specs.Counts.{counted}
-use Rattle.block.specs.Settings.{receiveModeWritten, transmitModeWritten, transmitterWritten, written}
-use Rattle.status.specs.Tests.{fifosCleared}
-use Rattle.block.specs.Fifos.{receiveOffsets, transmitOffsets, Stays, Clears}
+use Rattle.fifos.specs.Mailboxes.{unlisted}
+use Rattle.fifos.specs.Clearing.{cleared, receiveFifoCleared, transmitFifoCleared, stopped, unmarked, forgotten}
+use Rattle.fifos.specs.Counts.{counted}
+use Rattle.settings.specs.Settings.{receiveModeWritten, transmitModeWritten, transmitterWritten, written}
+use Rattle.restart.specs.Tests.{fifosCleared}
+use Rattle.fifos.specs.Fifos.{receiveOffsets, transmitOffsets, Stays, Clears}
 use Rattle.block.proofs.Words.{words}
-use Rattle.block.proofs.Marks.{unlist-length, unlist-before, unlist-fifo}
-use Rattle.block.proofs.Fifos.{receive-proper, transmit-proper, store-apart, clear-law}
-use Rattle.block.specs.Kept.{Kept, keptOf, keptBy, effectOf}
+use Rattle.fifos.proofs.Marks.{unlist-length, unlist-before, unlist-fifo}
+use Rattle.fifos.proofs.Fifos.{receive-proper, transmit-proper, store-apart, clear-law}
+use Rattle.settings.specs.Kept.{Kept, keptOf, keptBy, effectOf}
 use Rattle.channel_laws.specs.Effects.{settingChange}
 use Rattle.channel_laws.proofs.Holds.{withSettings, withSetting, parts, kept-setting, store-kept, same-settings}
 

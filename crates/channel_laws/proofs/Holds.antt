@@ -11,10 +11,10 @@ use lib.Seq.{getD-set-other, getD-take, take-set-le}
 use Rattle.ring.proofs.Words.{words-part, words-same}
 use Rattle.block.specs.Layout.{word, settings, receiveOverwritten, ranged, Whole}
 use Rattle.block.specs.Ranges.{inRange, Usable}
-use Rattle.block.specs.Fifos.{receiveOffsets, transmitOffsets, Fifo}
+use Rattle.fifos.specs.Fifos.{receiveOffsets, transmitOffsets, Fifo}
 use Rattle.block.proofs.Sound.{usable-set}
-use Rattle.block.proofs.Fifos.{Apart, store-apart}
-use Rattle.block.specs.Kept.{Kept, keptOf}
+use Rattle.fifos.proofs.Fifos.{Apart, store-apart}
+use Rattle.settings.specs.Kept.{Kept, keptOf}
 
 -- the block c is usable, and h is what is kept of it
 pub record Holds (c : List ℕ) (h : Kept) : Type 0 where

@@ -16,22 +16,23 @@ use Rattle.ring.proofs.Words.{sets-other}
 use Rattle.block.specs.Layout.{word, settings, receiver, receiveMode, receiveSize, receiveLevel, receivePosition, receiveRing, receiveOverwritten, receiveAccepted, receiveRead, receiveCleared, transmitLevel, transmitPosition, transmitSent, transmitCleared, transmitAccepted, transmitMode, transmitter, transmitRing, fifoKind, state, address, asyncMark, asyncWord, messageMark, latch, enable, levelMask, indexes, mailboxes, matchSet, Whole}
 use Rattle.block.specs.Modes.{fifoMode, immediate, triggered}
 use Rattle.block.specs.Ranges.{Usable}
-use Rattle.block.specs.Fifos.{receiveOffsets, transmitOffsets, fifo, entryAppended, entryTaken, Change, Stays, Clears}
-use Rattle.block.specs.Matching.{matchAt}
-use Rattle.block.specs.Mailboxes.{mailboxAt, newMark, isNew, unlisted}
-use Rattle.block.specs.Clearing.{cleared, receiveFifoCleared, stopped, unmarked, forgotten}
-use Rattle.block.specs.Factory.{factorySettings, factoryOf, settingsToFactory}
-use Rattle.block.specs.Settings.{receiveModeWritten, transmitModeWritten, transmitterWritten, written}
-use Rattle.block.proofs.Marks.{unlist-length, unlist-before}
+use Rattle.fifos.specs.Fifos.{receiveOffsets, transmitOffsets, fifo, entryAppended, entryTaken, Change, Stays, Clears}
+use Rattle.memories.specs.Matching.{matchAt}
+use Rattle.fifos.specs.Mailboxes.{mailboxAt, newMark, isNew, unlisted}
+use Rattle.fifos.specs.Clearing.{cleared, receiveFifoCleared, stopped, unmarked, forgotten}
+use Rattle.settings.specs.Factory.{factorySettings, factoryOf, settingsToFactory}
+use Rattle.settings.specs.Settings.{receiveModeWritten, transmitModeWritten, transmitterWritten, written}
+use Rattle.fifos.proofs.Marks.{unlist-length, unlist-before}
 use Rattle.status.specs.Status.{faultWeight}
-use Rattle.status.specs.Tests.{fifosCleared, tested, blockReset}
-use Rattle.receive.specs.Arrival.{filtered, listed, arrival}
+use Rattle.restart.specs.Tests.{fifosCleared, tested, blockReset}
+use Rattle.arrival.specs.Arrival.{filtered, listed, arrival}
 use Rattle.receive.specs.Entries.{entryOf, mailed}
 use Rattle.receive.specs.Arrived.{overwriting, stored, arrived}
 use Rattle.receive.specs.Fates.{arrivalChange}
-use Rattle.receive.specs.declared.Arrival.{Arrival}
-use Rattle.receive.specs.declared.Arrival.the-variants.{Ignored, Filtered, Appended, Dropped, Overwriting, AlreadyListed}
-use Rattle.receive.proofs.Bounds.{bounds, full}
+use Rattle.arrival.specs.declared.Arrival.{Arrival}
+use Rattle.arrival.specs.declared.Arrival.the-variants.{Ignored, Filtered, Appended, Dropped, Overwriting, AlreadyListed}
+use Rattle.fifos.proofs.Bounds.{bounds}
+use Rattle.receive.proofs.Stores.{full}
 use Rattle.receive.proofs.Laws.{entry-by-settings, entry-width}
 use Rattle.schedule.specs.Codes.{idle, running, paused}
 use Rattle.transmit.specs.States.{afterPause}
@@ -48,7 +49,8 @@ use Rattle.channel_calls.specs.declared.calls.ChannelCall.{ChannelCall}
 use Rattle.channel_calls.specs.declared.calls.ChannelCall.the-variants.{Settings, Memories, Status, Tests, Reads, Receive, Transmit}
 use Rattle.channel_calls.specs.declared.calls.Given.{Given}
 use Rattle.channel_calls.specs.declared.calls.Answer.{Answer}
-use Rattle.channel.specs.Channel.{didAnswer, didLeave, answerShown, blockAnswer, blockAfter}
+use Rattle.channel_groups.specs.Groups.{didAnswer, didLeave}
+use Rattle.channel.specs.Channel.{answerShown, blockAnswer, blockAfter}
 use Rattle.channel_laws.specs.Effects.{effect, settingChange}
 use Rattle.channel_laws.specs.Listing.{ListedBy, names, namesAny, inFifoMode, markBy, readsMailbox}
 use Rattle.channel_laws.proofs.Marks.{at, among, among-held, names-at, same-mark, taken-mark, unlist-mark, mail-mark, mark-set, mark-clear}

@@ -17,10 +17,10 @@ use Rattle.ring.specs.Ring.{slot, slots, words, held}
 use Rattle.ring.proofs.Words.{sets-other}
 use Rattle.block.specs.Layout.{word, parity, stamps, receiveMode, receivePosition, receiveRing, indexes, mailboxes, Whole}
 use Rattle.block.specs.Modes.{fifoMode}
-use Rattle.block.specs.Mailboxes.{mailboxAt, newMark, isNew, markTaken, listedIndex, marksTaken, unlisted}
-use Rattle.block.proofs.Marks.{marks-length, marks-before}
+use Rattle.fifos.specs.Mailboxes.{mailboxAt, newMark, isNew, markTaken, listedIndex, marksTaken, unlisted}
+use Rattle.fifos.proofs.Marks.{marks-length, marks-before}
 use Rattle.receive.specs.Entries.{stampOf, mailOf, mailed}
-use Rattle.receive.proofs.Bounds.{mark-le}
+use Rattle.receive.proofs.Stores.{mark-le}
 use Rattle.channel_laws.specs.Listing.{names, namesAny}
 
 -- ---- a list of entries, from its oldest and from its newest

@@ -10,18 +10,18 @@ use Rattle.word.proofs.Computed.{passes}
 use Rattle.ring.proofs.Laws.{none-held}
 use Rattle.block.specs.Layout.{word, settings, receiveLevel, receiveSize, receiveOverwritten, latch, enable, levelMask, ranged, blockWords, Whole}
 use Rattle.block.specs.Ranges.{leasts, greatests, inRange, Usable}
-use Rattle.block.specs.Mailboxes.{unlisted}
-use Rattle.block.specs.Clearing.{forgotten}
-use Rattle.block.specs.Counts.{counted}
-use Rattle.block.specs.Factory.{factorySettings, factoryOf, settingsToFactory}
-use Rattle.status.specs.Tests.{fifosCleared, blockReset}
-use Rattle.block.specs.Fifos.{Offsets, receiveOffsets, transmitOffsets, fifo, noEntries}
+use Rattle.fifos.specs.Mailboxes.{unlisted}
+use Rattle.fifos.specs.Clearing.{forgotten}
+use Rattle.fifos.specs.Counts.{counted}
+use Rattle.settings.specs.Factory.{factorySettings, factoryOf, settingsToFactory}
+use Rattle.restart.specs.Tests.{fifosCleared, blockReset}
+use Rattle.fifos.specs.Fifos.{Offsets, receiveOffsets, transmitOffsets, fifo, noEntries}
 use Rattle.block.proofs.Words.{words}
-use Rattle.block.proofs.Marks.{unlist-length}
+use Rattle.fifos.proofs.Marks.{unlist-length}
 use Rattle.block.proofs.Sound.{usable-words}
-use Rattle.block.proofs.Keeps.{factory-parts}
-use Rattle.status.proofs.Keeps.{reset-keeps}
-use Rattle.block.specs.Kept.{Kept, keptOf, keptFirst, keptBy}
+use Rattle.settings.proofs.Keeps.{factory-parts}
+use Rattle.restart.proofs.Restarts.{reset-keeps}
+use Rattle.settings.specs.Kept.{Kept, keptOf, keptFirst, keptBy}
 use Rattle.channel_laws.specs.Effects.{resetEffect}
 use Rattle.channel_laws.proofs.Holds.{Holds, withSettings, parts, store-kept}
 use Rattle.channel_laws.proofs.Changes.{forget-kept, both-clear-kept, settings-kept}

@@ -12,12 +12,12 @@ use Rattle.ring.specs.Ring.{slot}
 use Rattle.block.specs.Layout.{word, settings, receiveMode, transmitMode, transmitter, messageMark, state, receiveLevel, transmitLevel, transmitPosition, transmitRing}
 use Rattle.block.specs.Ranges.{Usable}
 use Rattle.block.specs.Modes.{immediate}
-use Rattle.block.specs.Settings.{receiveModeWritten, transmitModeWritten, transmitterWritten, written}
-use Rattle.block.specs.Matching.{matchAt}
-use Rattle.block.specs.Mailboxes.{unlisted}
-use Rattle.block.specs.Clearing.{receiveFifoCleared, stopped, forgotten}
+use Rattle.settings.specs.Settings.{receiveModeWritten, transmitModeWritten, transmitterWritten, written}
+use Rattle.memories.specs.Matching.{matchAt}
+use Rattle.fifos.specs.Mailboxes.{unlisted}
+use Rattle.fifos.specs.Clearing.{receiveFifoCleared, stopped, forgotten}
 use Rattle.block.proofs.Words.{words}
-use Rattle.block.proofs.Marks.{unlist-before}
+use Rattle.fifos.proofs.Marks.{unlist-before}
 use Rattle.schedule.specs.Codes.{idle, running, paused}
 use Rattle.schedule.specs.Spacing.{Item, Forgotten}
 use Rattle.schedule.proofs.Spacing.{Apart}
@@ -40,8 +40,9 @@ use Rattle.channel_calls.specs.declared.calls.TransmitCall.the-variants.{WriteF
 use Rattle.channel_calls.specs.declared.calls.ChannelCall.{ChannelCall}
 use Rattle.channel_calls.specs.declared.calls.ChannelCall.the-variants.{Settings, Memories, Status, Tests, Reads, Receive, Transmit}
 use Rattle.channel_calls.specs.declared.calls.Given.{Given}
-use Rattle.channel.specs.Groups.{memoryAfter, statusAfter, receiveAfter}
-use Rattle.channel.specs.Channel.{didAnswer, didLeave, answerShown, blockAnswer, blockAfter}
+use Rattle.channel_groups.specs.Groups.{memoryAfter, statusAfter, receiveAfter}
+use Rattle.channel_groups.specs.Groups.{didAnswer, didLeave}
+use Rattle.channel.specs.Channel.{answerShown, blockAnswer, blockAfter}
 use Rattle.channel_laws.specs.Spacing.{settingForgets, forgottenIf, lineOf}
 use Rattle.channel_laws.proofs.Holds.{kept-setting}
 

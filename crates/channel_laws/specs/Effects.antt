@@ -6,14 +6,14 @@ use lib.Dec.{eqb}
 use lib.ListN.{set}
 use Rattle.block.specs.Layout.{word, receiveMode, transmitMode}
 use Rattle.block.specs.Modes.{scheduled}
-use Rattle.block.specs.Factory.{factorySettings}
-use Rattle.block.specs.Fifos.{Change, Stays, Adds, Takes, Clears, Begins}
-use Rattle.block.specs.Kept.{Effect, effectOf}
+use Rattle.settings.specs.Factory.{factorySettings}
+use Rattle.fifos.specs.Fifos.{Change, Stays, Adds, Takes, Clears, Begins}
+use Rattle.settings.specs.Kept.{Effect, effectOf}
 use Rattle.schedule.specs.declared.Output.{Output}
 use Rattle.schedule.specs.declared.Output.the-variants.{Quiet, FifoWord, Message, Null, Async, Reserved, NullMessage}
 use Rattle.receive.specs.Entries.{entryOf}
 use Rattle.receive.specs.Fates.{arrivalChange}
-use Rattle.receive.specs.declared.Arrival.{Arrival}
+use Rattle.arrival.specs.declared.Arrival.{Arrival}
 use Rattle.channel_calls.specs.Answers.{settingNumber}
 use Rattle.channel_calls.specs.declared.calls.SettingCall.the-variants.{WriteSetting, ReadSetting}
 use Rattle.channel_calls.specs.declared.calls.TestCall.the-variants.{Sample, ResetTest, InitiateTest}

@@ -5,7 +5,7 @@ use mathlib.Core.List.{List, [], _∷_}
 use Prim.Native.Nat.{ℕ, _+_, _≤_, _<_}
 use native.Mathlib.Omega.{arith}
 use lib.ListN.{length, drop, getD, length-drop}
-use Rattle.readings.proofs.Lists.{next}
+use Rattle.label_list.proofs.Lists.{next}
 use Rattle.text.specs.declared.list.Listed.{Listed}
 use Rattle.text.specs.Listed.{listedByte, listAfter}
 use Rattle.text.proofs.Lengths.{length-after}

@@ -76,8 +76,8 @@ fn print_reading(list: &[u32], word: u32) {
         Reading::Decimal(value) => {
             print(b"decimal ");
             print_size(
-                readings::signs::is_minus(value),
-                readings::signs::size(value) as u64,
+                reading_fields::signs::is_minus(value),
+                reading_fields::signs::size(value) as u64,
             );
         }
         Reading::Bits(field) => {
@@ -126,7 +126,7 @@ fn answer(list: &[u32], line: Line) {
             print_encoded(
                 list,
                 word,
-                readings::signs::joined(minus, size % 0x8000_0000),
+                reading_fields::signs::joined(minus, size % 0x8000_0000),
             );
         }
         Asked::Nothing => {

@@ -4,7 +4,8 @@ use Prim.Native.Nat.{ℕ}
 use mathlib.Core.Path.{_≡_, refl}
 use mathlib.Core.Bool.{false}
 use mathlib.Core.List.{List}
-use Rattle.channel.specs.Channel.{didAnswer, answerShown}
+use Rattle.channel_groups.specs.Groups.{didAnswer}
+use Rattle.channel.specs.Channel.{answerShown}
 use Rattle.channel_calls.specs.Answers.{isRefused}
 use Rattle.channel_calls.specs.declared.calls.SettingCall.the-variants.{WriteSetting, ReadSetting}
 use Rattle.channel_calls.specs.declared.calls.MemoryCall.the-variants.{WriteMatch, ReadMatch, WriteSchedule, ReadSchedule, WriteMessage, ReadMessage}

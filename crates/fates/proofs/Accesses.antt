@@ -6,7 +6,7 @@ use mathlib.Core.Bool.{Bool, true, false, cond}
 use mathlib.Core.List.{List, _++_}
 use lib.Dec.{eqb}
 use lib.ListN.{take, drop, take-append-drop}
-use Rattle.block.specs.Kept.{Effect, keptOf, keptBy}
+use Rattle.settings.specs.Kept.{Effect, keptOf, keptBy}
 use Rattle.channel.specs.Channel.{blockAnswer}
 use Rattle.channel_calls.specs.Answers.{isRefused}
 use Rattle.channel_calls.specs.declared.calls.Answer.{Answer}

@@ -9,12 +9,12 @@ use borrow.Author.Tests.{eqb-false, ltb-true, ltb-false, le-ltb}
 use lib.Dec.{eqb, ltb}
 use lib.ListN.{length, take, drop, take-append-drop}
 use Rattle.block.specs.Layout.{word, transmitter}
-use Rattle.block.specs.Fifos.{receiveOffsets, fifo}
-use Rattle.block.specs.Kept.{Kept, keptOf}
-use Rattle.receive.specs.Reading.{shown}
+use Rattle.fifos.specs.Fifos.{receiveOffsets, fifo}
+use Rattle.settings.specs.Kept.{Kept, keptOf}
+use Rattle.receive_reads.specs.Reading.{shown}
 use Rattle.channel.specs.Channel.{blockAnswer, blockAfter}
-use Rattle.channel.specs.Told.{oldestOf, Told}
-use Rattle.channel.proofs.Told.{told}
+use Rattle.channel_groups.specs.Told.{oldestOf, Told}
+use Rattle.channel.proofs.Answered.{block-told}
 use Rattle.channel_calls.specs.Answers.{answerUnless, isRefused}
 use Rattle.channel_calls.specs.Refusals.{channelRefusal}
 use Rattle.channel_calls.proofs.Late.{late}
@@ -94,7 +94,7 @@ module _ {h : History} {m : List ℕ} (g : Agrees h m) where
   on-answered ch k r false true p q = rw (sane-on (g .sane) ch k false true p q) refl
   on-answered ch k r false false p q =
       rw (sane-on (g .sane) ch k false false p q)
-      (subst (λ (x : Kept). Told x k a) kept (told b (givenOf ch k m) k (g .sane .usable ch low high) shows), not-early ch k b)
+      (subst (λ (x : Kept). Told x k a) kept (block-told b (givenOf ch k m) k (g .sane .usable ch low high) shows), not-early ch k b)
     where
       b : List ℕ
       b = block m ch

@@ -11,18 +11,18 @@ use lib.ListN.{length, getD, drop}
 use Rattle.word.proofs.Laws.{sent-keeps}
 use Rattle.block.specs.Layout.{word, parity, receiveMode, transmitMode}
 use Rattle.block.specs.Modes.{scheduled}
-use Rattle.block.specs.Fifos.{Fifo, Change, Stays, Adds, Overwrites, Takes, Clears, Begins, changed}
-use Rattle.block.specs.Kept.{Kept, Effect}
+use Rattle.fifos.specs.Fifos.{Fifo, Change, Stays, Adds, Overwrites, Takes, Clears, Begins, changed}
+use Rattle.settings.specs.Kept.{Kept, Effect}
 use Rattle.schedule.specs.declared.Output.{Output}
 use Rattle.schedule.specs.declared.Output.the-variants.{Quiet, FifoWord, Message, Null, Async, Reserved, NullMessage}
 use Rattle.receive.specs.Entries.{wordEntry, indexEntry, entryOf}
-use Rattle.receive.specs.Reading.{shown}
+use Rattle.receive_reads.specs.Reading.{shown}
 use Rattle.receive.specs.Fates.{arrivalChange}
-use Rattle.receive.specs.declared.Arrival.{Arrival}
-use Rattle.receive.specs.declared.Arrival.the-variants.{Ignored, Filtered, Appended, Dropped, Overwriting, AlreadyListed}
+use Rattle.arrival.specs.declared.Arrival.{Arrival}
+use Rattle.arrival.specs.declared.Arrival.the-variants.{Ignored, Filtered, Appended, Dropped, Overwriting, AlreadyListed}
 use Rattle.receive.proofs.Laws.{entry-shown}
-use Rattle.channel.specs.Groups.{entryAnswer}
-use Rattle.channel.specs.Told.{oldestOf, outcomeBy, ArrivalTold, WordTold, StepTold, Told}
+use Rattle.channel_groups.specs.Groups.{entryAnswer}
+use Rattle.channel_groups.specs.Told.{oldestOf, outcomeBy, ArrivalTold, WordTold, StepTold, Told}
 use Rattle.channel_calls.specs.Answers.{settingNumber, answerUnless, isRefused}
 use Rattle.channel_calls.specs.declared.calls.SettingCall.the-variants.{WriteSetting, ReadSetting}
 use Rattle.channel_calls.specs.declared.calls.TestCall.the-variants.{Sample, ResetTest, InitiateTest}

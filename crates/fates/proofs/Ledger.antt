@@ -6,7 +6,7 @@ use mathlib.Core.Bool.{Bool, true, false, cond}
 use mathlib.Core.List.{List, [], _∷_, _++_, map, append-assoc}
 use native.Mathlib.Omega.{arith}
 use lib.ListN.{length, getD, take, drop, length-append, take-append-drop}
-use Rattle.block.specs.Fifos.{Fifo, Change, Stays, Adds, Overwrites, Takes, Clears, Begins, changed, overwrittenAfter}
+use Rattle.fifos.specs.Fifos.{Fifo, Change, Stays, Adds, Overwrites, Takes, Clears, Begins, changed, overwrittenAfter}
 use Rattle.fates.specs.Ledger.{Side, Receiving, Transmitting, aside, Fate, TakenOut, Cleared, Overwritten, Accepted, Departed, Ledger, enters, depart, ledgerAfter, acceptedAfter, Fits, numbered, entries, byFate, number}
 use Rattle.fates.specs.Theorem.{Every, AsAccepted, Accounts}
 

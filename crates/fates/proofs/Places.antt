@@ -5,7 +5,7 @@ use mathlib.Core.Path.{_≡_, refl, sym, ap, _∙_, subst}
 use mathlib.Core.List.{List, [], _∷_, _++_, map}
 use native.Mathlib.Omega.{arith}
 use lib.ListN.{length, take}
-use Rattle.block.specs.Fifos.{Change, Stays, Adds, Overwrites, Takes, Clears, Begins}
+use Rattle.fifos.specs.Fifos.{Change, Stays, Adds, Overwrites, Takes, Clears, Begins}
 use Rattle.fates.specs.History.{Telling}
 use Rattle.fates.specs.Ledger.{Side, Fate, TakenOut, Cleared, Overwritten, Accepted, Departed, Ledger, ledgerAfter, acceptedAfter, changeBehind, ledger, acceptedBy, numbered}
 use Rattle.fates.specs.Theorem.{Every}

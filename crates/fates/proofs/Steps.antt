@@ -10,8 +10,8 @@ use lib.Dec.{eqb, ltb}
 use lib.ListN.{length, set}
 use lib.Seq.{getD-set-same, getD-set-other}
 use Rattle.block.specs.Layout.{word}
-use Rattle.block.specs.Counts.{counted}
-use Rattle.block.specs.Kept.{Kept, keptOf, keptBy}
+use Rattle.fifos.specs.Counts.{counted}
+use Rattle.settings.specs.Kept.{Kept, keptOf, keptBy}
 use Rattle.channel.specs.Channel.{blockAnswer, blockAfter}
 use Rattle.channel_calls.specs.Answers.{isRefused}
 use Rattle.channel_calls.specs.declared.calls.Answer.{Answer}

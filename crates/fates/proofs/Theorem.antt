@@ -8,10 +8,10 @@ use native.Mathlib.Omega.{arith}
 use borrow.Author.Tests.{eqb-true, le-ltb}
 use lib.Dec.{eqb}
 use lib.ListN.{length, take, drop, length-take}
-use Rattle.block.specs.Counts.{rolled}
-use Rattle.block.specs.Fifos.{Fifo, Change, Stays, Adds, Overwrites, Takes, Clears, Begins, changed, overwrittenAfter}
-use Rattle.block.specs.Kept.{Kept, keptOf}
-use Rattle.channel.specs.Told.{Told}
+use Rattle.fifos.specs.Counts.{rolled}
+use Rattle.fifos.specs.Fifos.{Fifo, Change, Stays, Adds, Overwrites, Takes, Clears, Begins, changed, overwrittenAfter}
+use Rattle.settings.specs.Kept.{Kept, keptOf}
+use Rattle.channel_groups.specs.Told.{Told}
 use Rattle.channel_calls.specs.Answers.{isRefused}
 use Rattle.channel_calls.specs.declared.calls.ReadCall.the-variants.{ReadCounts, ReadReceiveLevel, ReadTransmitLevel}
 use Rattle.channel_calls.specs.declared.calls.ChannelCall.{ChannelCall}

@@ -3,7 +3,7 @@ use Prim.Native.Nat.{ℕ, _≤_}
 use mathlib.Core.Path.{_≡_}
 use mathlib.Core.List.{List}
 use Rattle.block.specs.Layout.{word}
-use Rattle.block.specs.Kept.{keptOf}
+use Rattle.settings.specs.Kept.{keptOf}
 use Rattle.frame.specs.Layout.{count, block}
 use Rattle.wide.specs.Part.{partOf}
 use Rattle.module_laws.specs.Sane.{Sane}

@@ -5,7 +5,7 @@ use mathlib.Core.Bool.{Bool, false, cond, not, _&&_, _||_}
 use lib.Dec.{eqb, ltb}
 use Rattle.block.specs.Layout.{word, transmitter}
 use Rattle.frame.specs.Layout.{most, need}
-use Rattle.channel.specs.Told.{Told}
+use Rattle.channel_groups.specs.Told.{Told}
 use Rattle.channel_calls.specs.Answers.{answerUnless, isRefused}
 use Rattle.channel_calls.specs.declared.calls.Answer.{Answer}
 use Rattle.channel_calls.specs.declared.calls.Answer.the-variants.{Done, Refused, Value}

@@ -3,7 +3,7 @@ use Prim.Native.Nat.{ℕ, suc, _≤_, _<_}
 use mathlib.Core.Path.{_≡_}
 use mathlib.Core.List.{List, [], _∷_, _++_, map}
 use lib.ListN.{length}
-use Rattle.block.specs.Fifos.{Change, Stays, Adds, Overwrites, Takes, Clears, Begins}
+use Rattle.fifos.specs.Fifos.{Change, Stays, Adds, Overwrites, Takes, Clears, Begins}
 use Rattle.registers.specs.declared.accesses.Access.{Access}
 use Rattle.fates.specs.Run.{run, toldBy}
 use Rattle.fates.specs.History.{Telling, history}

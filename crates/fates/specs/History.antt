@@ -3,8 +3,8 @@ use Prim.Native.Nat.{ℕ, _+_}
 use mathlib.Core.List.{List, [], _∷_, map}
 use mathlib.Core.Bool.{cond}
 use lib.Dec.{eqb}
-use Rattle.block.specs.Counts.{counted}
-use Rattle.block.specs.Kept.{Kept, keptFirst, Effect, keptBy}
+use Rattle.fifos.specs.Counts.{counted}
+use Rattle.settings.specs.Kept.{Kept, keptFirst, Effect, keptBy}
 use Rattle.channel_calls.specs.Answers.{isRefused}
 use Rattle.channel_calls.specs.declared.calls.Answer.{Answer}
 use Rattle.channel_calls.specs.declared.calls.Answer.the-variants.{Done}

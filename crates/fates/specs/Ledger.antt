@@ -4,9 +4,9 @@ use mathlib.Core.Path.{_≡_}
 use mathlib.Core.List.{List, [], _∷_, _++_, map}
 use mathlib.Core.Bool.{Bool, true, false, cond}
 use lib.ListN.{length, take, drop}
-use Rattle.block.specs.Fifos.{Fifo, Change, Stays, Adds, Overwrites, Takes, Clears, Begins}
-use Rattle.block.specs.Kept.{Kept, Effect}
-use Rattle.channel.specs.Told.{oldestOf}
+use Rattle.fifos.specs.Fifos.{Fifo, Change, Stays, Adds, Overwrites, Takes, Clears, Begins}
+use Rattle.settings.specs.Kept.{Kept, Effect}
+use Rattle.channel_groups.specs.Told.{oldestOf}
 use Rattle.fates.specs.History.{Telling, effectOn, history}
 
 -- ---- of which FIFO

@@ -4,9 +4,9 @@ use mathlib.Core.Path.{_≡_}
 use mathlib.Core.Bool.{false}
 use mathlib.Core.List.{List, [], _∷_, _++_}
 use lib.ListN.{length, take}
-use Rattle.block.specs.Counts.{rolled}
-use Rattle.block.specs.Fifos.{Fifo}
-use Rattle.block.specs.Kept.{keptOf}
+use Rattle.fifos.specs.Counts.{rolled}
+use Rattle.fifos.specs.Fifos.{Fifo}
+use Rattle.settings.specs.Kept.{keptOf}
 use Rattle.channel_calls.specs.Answers.{isRefused}
 use Rattle.channel_calls.specs.declared.calls.ReadCall.the-variants.{ReadCounts, ReadReceiveLevel, ReadTransmitLevel}
 use Rattle.channel_calls.specs.declared.calls.ChannelCall.the-variants.{Reads}

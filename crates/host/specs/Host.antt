@@ -7,7 +7,7 @@ use lib.ListN.{length, getD, replicate}
 use lib.Seq.{sets}
 use Rattle.frame.specs.Layout.{need, most}
 use Rattle.calls.specs.Performed.{itemNumbers, itemAfter}
-use Rattle.calls.specs.declared.items.Item.{Item}
+use Rattle.items.specs.declared.Item.{Item}
 
 -- "A module has 1 to 12 channels": the words that so many need, 0 for any other number
 unfoldable pub hostWords : ℕ → ℕ

@@ -8,7 +8,7 @@ use frame::layout::MOST;
 ghost use mathlib.Core.Path.{_≡_};
 ghost use lib.ListN.{length};
 ghost use Rattle.word.specs.Word.{label};
-ghost use Rattle.calls.specs.Items.{decoded};
+ghost use Rattle.items.specs.Items.{decoded};
 ghost use Rattle.host.specs.Host.{hostWords, hostNumber, hostValues, hostAfter};
 
 // The words that the values of an answer need.

@@ -11,12 +11,12 @@ use lib.Dec.{eqb}
 use Rattle.word.specs.Word.{index}
 use Rattle.block.specs.Layout.{word, settings, receiveMode, indexes, blockWords}
 use Rattle.block.specs.Modes.{fifoMode}
-use Rattle.block.specs.Fifos.{Clears}
-use Rattle.block.specs.Kept.{Kept, keptOf}
-use Rattle.block.specs.Mailboxes.{mailboxAt, isNew}
-use Rattle.receive.specs.Arrival.{arrival}
-use Rattle.receive.specs.declared.Arrival.{Arrival}
-use Rattle.receive.specs.declared.Arrival.the-variants.{Ignored}
+use Rattle.fifos.specs.Fifos.{Clears}
+use Rattle.settings.specs.Kept.{Kept, keptOf}
+use Rattle.fifos.specs.Mailboxes.{mailboxAt, isNew}
+use Rattle.arrival.specs.Arrival.{arrival}
+use Rattle.arrival.specs.declared.Arrival.{Arrival}
+use Rattle.arrival.specs.declared.Arrival.the-variants.{Ignored}
 use Rattle.channel.specs.Channel.{blockAnswer}
 use Rattle.channel_calls.specs.declared.calls.ReadCall.the-variants.{ReadCounts}
 use Rattle.channel_calls.specs.declared.calls.ReceiveCall.the-variants.{Arrive}

@@ -9,7 +9,7 @@ use lib.Dec.{eqb}
 use lib.ListN.{length, take, drop, length-take, take-append-drop}
 use Rattle.ring.specs.Ring.{words}
 use Rattle.block.specs.Layout.{word, indexes, lastIndex}
-use Rattle.block.specs.Mailboxes.{mailboxAt, newMark, isNew}
+use Rattle.fifos.specs.Mailboxes.{mailboxAt, newMark, isNew}
 use Rattle.channel_calls.specs.Refusals.{above}
 use Rattle.channel_calls.specs.declared.calls.ReceiveCall.the-variants.{ReadMailbox}
 use Rattle.channel_calls.specs.declared.calls.ChannelCall.the-variants.{Receive}

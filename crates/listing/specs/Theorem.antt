@@ -7,10 +7,10 @@ use lib.Dec.{eqb}
 use lib.ListN.{getD}
 use Rattle.word.specs.Word.{index}
 use Rattle.block.specs.Layout.{indexes}
-use Rattle.block.specs.Fifos.{Change, Stays, Adds, Overwrites, Takes, Clears, Begins}
-use Rattle.block.specs.Mailboxes.{newMark}
-use Rattle.receive.specs.declared.Arrival.{Arrival}
-use Rattle.receive.specs.declared.Arrival.the-variants.{Ignored, Filtered, Appended, Dropped, Overwriting, AlreadyListed}
+use Rattle.fifos.specs.Fifos.{Change, Stays, Adds, Overwrites, Takes, Clears, Begins}
+use Rattle.fifos.specs.Mailboxes.{newMark}
+use Rattle.arrival.specs.declared.Arrival.{Arrival}
+use Rattle.arrival.specs.declared.Arrival.the-variants.{Ignored, Filtered, Appended, Dropped, Overwriting, AlreadyListed}
 use Rattle.channel_calls.specs.declared.calls.ReceiveCall.the-variants.{Arrive, ReadMailbox}
 use Rattle.channel_calls.specs.declared.calls.ChannelCall.the-variants.{Receive}
 use Rattle.channel_calls.specs.declared.calls.Answer.{Answer}

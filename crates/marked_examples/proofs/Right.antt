@@ -10,8 +10,8 @@ use Rattle.frame.specs.Counters.{sampled}
 use Rattle.ring.specs.Ring.{words, held}
 use Rattle.schedule.specs.Output.{values}
 use Rattle.schedule.specs.Schedule.{onward, messageStep, gapStep, commandStep, stepped}
-use Rattle.block.specs.Mailboxes.{unlisted}
-use Rattle.receive.specs.Arrival.{filtered, listed, arrival}
+use Rattle.fifos.specs.Mailboxes.{unlisted}
+use Rattle.arrival.specs.Arrival.{filtered, listed, arrival}
 use Rattle.receive.specs.Arrived.{stored}
 use Rattle.receive.specs.Entries.{stampOf, entryOf, mailed}
 use Rattle.transmit.specs.Step.{scheduledOutcome}

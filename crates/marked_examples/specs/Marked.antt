@@ -6,9 +6,9 @@ use lib.ListN.{set}
 use Rattle.word.specs.Word.{label}
 use Rattle.word.specs.Parity.{asSent, errorMark}
 use Rattle.block.specs.Layout.{word, receiver, matching, fifoKind, receiveSize, state, address, receiveAccepted, receiveOverwritten, messageRam, scheduleRam, blockWords}
-use Rattle.block.specs.Factory.{factoryOf}
-use Rattle.block.specs.Fifos.{receiveOffsets, fifo}
-use Rattle.block.specs.Memories.{ramWritten}
+use Rattle.settings.specs.Factory.{factoryOf}
+use Rattle.fifos.specs.Fifos.{receiveOffsets, fifo}
+use Rattle.memories.specs.Memories.{ramWritten}
 use Rattle.status.specs.Status.{faultWeight, faulty, latched}
 use Rattle.frame.specs.Layout.{stamp}
 use Rattle.frame.specs.Counters.{sampled}
@@ -19,7 +19,7 @@ use Rattle.schedule.specs.Output.{values}
 use Rattle.schedule.specs.Schedule.{stepped}
 use Rattle.schedule.specs.declared.Place.{Place}
 use Rattle.schedule.specs.declared.Outcome.{Outcome}
-use Rattle.receive.specs.Arrival.{arrival, outcome}
+use Rattle.arrival.specs.Arrival.{arrival, outcome}
 use Rattle.receive.specs.Arrived.{arrived}
 use Rattle.transmit.specs.Step.{scheduledOutcome}
 

@@ -10,7 +10,7 @@ use lib.Dec.{eqb}
 use lib.ListN.{length, take, drop, set, length-set, length-take, length-append}
 use lib.Seq.{drop-set-lt, drop-append-add, drop-at, drop-drop}
 use Rattle.block.specs.Layout.{word, blockWords}
-use Rattle.block.specs.Factory.{factoryOf}
+use Rattle.settings.specs.Factory.{factoryOf}
 use Rattle.block.specs.Refusals.{leaveUnless}
 use Rattle.block.proofs.Refusals.{neither}
 use Rattle.channel_calls.specs.declared.calls.ChannelCall.{ChannelCall}

@@ -9,7 +9,7 @@ use borrow.Author.Tests.{eqb-true, ltb-false, le-ltb, lt-ltb}
 use lib.Dec.{eqb, ltb}
 use lib.ListN.{length, set, drop, length-set, length-append, List·getD-append}
 use lib.Seq.{set-append-left, drop-append-le}
-use Rattle.block.specs.Counts.{counted}
+use Rattle.fifos.specs.Counts.{counted}
 use Rattle.block.specs.Layout.{word, blockWords}
 use Rattle.block.specs.Ranges.{Usable}
 use Rattle.block.proofs.Sound.{each-in}
@@ -18,7 +18,7 @@ use Rattle.channel.specs.Channel.{blockAnswer, blockAfter}
 use Rattle.channel_calls.specs.declared.calls.Answer.{Answer}
 use Rattle.channel_calls.specs.declared.calls.Answer.the-variants.{Done, Refused, Value}
 use Rattle.channel_calls.specs.declared.calls.ChannelCall.{ChannelCall}
-use Rattle.block.specs.Kept.{keptOf, keptFirst}
+use Rattle.settings.specs.Kept.{keptOf, keptFirst}
 use Rattle.channel_laws.proofs.Resets.{first-holds}
 use Rattle.frame.specs.Layout.{count, stamp, resolution, threshold, layout, moduleWords, most, need, base, block, withBlock, Framed}
 use Rattle.frame.specs.Each.{eachTo}

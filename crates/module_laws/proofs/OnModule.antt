@@ -9,12 +9,12 @@ use borrow.Author.Tests.{ltb-false}
 use lib.Dec.{ltb}
 use lib.ListN.{getD, set}
 use lib.Seq.{getD-set-other}
-use Rattle.block.specs.Counts.{counted}
+use Rattle.fifos.specs.Counts.{counted}
 use Rattle.block.specs.Layout.{word, latch}
 use Rattle.block.specs.Ranges.{Usable}
 use Rattle.block.proofs.Sound.{is-within}
 use Rattle.status.proofs.Keeps.{rule-keeps}
-use Rattle.block.specs.Kept.{keptOf}
+use Rattle.settings.specs.Kept.{keptOf}
 use Rattle.channel_laws.proofs.Holds.{store-kept}
 use Rattle.frame.specs.Layout.{count, stamp, resolution, threshold, moduleWords, block}
 use Rattle.frame.specs.Refusals.{mostResolution, leastThreshold, mostThreshold, partLeasts, partGreatests, wideRefusal}

@@ -5,10 +5,10 @@ use mathlib.Core.Path.{_≡_, sym, ap, _∙_, subst}
 use mathlib.Core.List.{List}
 use native.Mathlib.Omega.{arith}
 use Rattle.block.specs.Layout.{word}
-use Rattle.block.specs.Counts.{counted}
+use Rattle.fifos.specs.Counts.{counted}
 use Rattle.block.specs.Ranges.{Usable}
 use Rattle.block.proofs.Sound.{each-in}
-use Rattle.block.specs.Kept.{keptOf, keptBy}
+use Rattle.settings.specs.Kept.{keptOf, keptBy}
 use Rattle.channel_laws.specs.Effects.{resetEffect}
 use Rattle.channel_laws.proofs.Resets.{reset-left}
 use Rattle.frame.specs.Layout.{count, moduleWords, block}

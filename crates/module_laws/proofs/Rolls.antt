@@ -5,9 +5,9 @@ use mathlib.Core.List.{[]}
 use Prim.Native.Nat.{ℕ, _+_}
 use native.Mathlib.Omega.{arith}
 use lib.ListN.{length}
-use Rattle.block.specs.Counts.{rolled, counted}
-use Rattle.block.specs.Fifos.{Fifo, accepts, gives, overwrites, Change, Stays, Adds, Overwrites, Takes, Clears, Begins, changed, overwrittenAfter}
-use Rattle.block.specs.Kept.{Kept, Effect, keptBy}
+use Rattle.fifos.specs.Counts.{rolled, counted}
+use Rattle.fifos.specs.Fifos.{Fifo, accepts, gives, overwrites, Change, Stays, Adds, Overwrites, Takes, Clears, Begins, changed, overwrittenAfter}
+use Rattle.settings.specs.Kept.{Kept, Effect, keptBy}
 use Rattle.channel_laws.proofs.Holds.{parts}
 use Rattle.module_laws.specs.Reduced.{reducedFifo, reduced}
 

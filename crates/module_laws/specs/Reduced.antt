@@ -1,7 +1,7 @@
 -- What is kept of a channel with its counts as 32-bit words hold them (paper 01, "Fates").
-use Rattle.block.specs.Counts.{rolled}
-use Rattle.block.specs.Fifos.{Fifo}
-use Rattle.block.specs.Kept.{Kept}
+use Rattle.fifos.specs.Counts.{rolled}
+use Rattle.fifos.specs.Fifos.{Fifo}
+use Rattle.settings.specs.Kept.{Kept}
 
 abbrev pub reducedFifo : Fifo → Fifo
 reducedFifo f = record { held = f .held; accepted = rolled (f .accepted); taken = rolled (f .taken); cleared = rolled (f .cleared) }

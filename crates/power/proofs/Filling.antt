@@ -9,7 +9,7 @@ use lib.ListN.{length, take, drop, set, replicate, length-append, length-set, le
 use lib.Seq.{sets, sets-eq, take-at, drop-at, drop-cons, drop-set-lt, getD-set-same, getD-set-other, length-take-le}
 use borrow.Rule.Slice.PartMut.{putMid, postOf, post-is, mid-len, take-put, drop-put}
 use Rattle.block.specs.Layout.{word, settings, blockWords}
-use Rattle.block.specs.Factory.{factoryOf, nonzeroToFactory}
+use Rattle.settings.specs.Factory.{factoryOf, nonzeroToFactory}
 use Rattle.frame.specs.Layout.{count, stamp, layout, layoutNumber, moduleWords, need, base, block, withBlock}
 use Rattle.frame.proofs.Parts.{part, splice, part-back, splice-back}
 use Rattle.power.specs.Power.{repeated, partWith, factoryPart, factoryBlocks, powered}

@@ -10,7 +10,7 @@ use lib.Dec.{ltb}
 use lib.ListN.{length, drop, getD, length-append, length-drop, List·getD-append}
 use lib.Seq.{take-at}
 use Rattle.block.specs.Layout.{word, blockWords}
-use Rattle.block.specs.Factory.{factoryOf}
+use Rattle.settings.specs.Factory.{factoryOf}
 use Rattle.frame.specs.Layout.{moduleWords, most, need, base, block, Framed}
 use Rattle.frame.proofs.Parts.{part, part-back}
 use Rattle.block.proofs.Refusals.{past}

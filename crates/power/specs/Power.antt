@@ -5,7 +5,7 @@ use mathlib.Core.Bool.{cond}
 use lib.Dec.{ltb}
 use lib.ListN.{length, drop}
 use Rattle.block.specs.Layout.{blockWords}
-use Rattle.block.specs.Factory.{factoryOf}
+use Rattle.settings.specs.Factory.{factoryOf}
 use Rattle.block.specs.Refusals.{leaveUnless}
 use Rattle.frame.specs.Layout.{layoutNumber, most, need}
 

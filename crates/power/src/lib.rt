@@ -15,7 +15,7 @@ ghost use mathlib.Core.List.{_++_};
 ghost use Prim.Native.Nat.{_≤_};
 ghost use lib.ListN.{length, take, drop, replicate};
 ghost use Rattle.block.specs.Layout.{word};
-ghost use Rattle.block.specs.Factory.{nonzeroToFactory};
+ghost use Rattle.settings.specs.Factory.{nonzeroToFactory};
 ghost use Rattle.frame.specs.Layout.{count, layout, moduleWords, most, need, block, withBlock};
 ghost use Rattle.power.specs.Power.{partWith, factoryPart, factoryBlocks, powerRefusal, powerAfter};
 
@@ -72,7 +72,7 @@ fn set_channel(mem: &mut [u32], channel: u32)
 {
     let from = MODULE_WORDS + ((channel - 1) as usize) * WORDS;
     let to = from + WORDS;
-    block::factory::reset_nonzero_settings(&mut mem[from..to]);
+    settings::factory::reset_nonzero_settings(&mut mem[from..to]);
 }
 
 // Fills the blocks of the channels 1 to `count`: zeros in all of them at once, which is quicker than block by block, and then the settings.

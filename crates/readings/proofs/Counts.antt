@@ -11,7 +11,7 @@ use lib.Pow.{pow-add, pow-pos, pow-mono}
 use lib.Ieee.{binary64, round, ofInt, inFloat, inSigned, toSigned}
 use lib.Ieee.Back.{positive-back, negative-back}
 use lib.Ieee.Scale.{round-same}
-use Rattle.readings.specs.Signs.{signed, minus}
+use Rattle.reading_fields.specs.Signs.{signed, minus}
 use Rattle.readings.specs.Reading.{inUnits}
 use Rattle.readings.specs.Units.{ths, scaled, countOf, nextRest, restAfter}
 use Rattle.readings.proofs.Exact.{mul-value, like-plus, holds, units-exact}

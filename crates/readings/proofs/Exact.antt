@@ -15,7 +15,7 @@ use lib.Ieee.Back.{round-whole}
 use lib.Ieee.Scale.{round-same}
 use lib.Ieee.Positive.{first-pos}
 use borrow.Author.Tests.{ne-eqb}
-use Rattle.readings.specs.Signs.{minus}
+use Rattle.reading_fields.specs.Signs.{minus}
 use Rattle.readings.specs.Reading.{inUnits}
 
 -- ---- quotients and products of floats that have a value

@@ -14,17 +14,17 @@ use borrow.Author.Tests.{lt-ltb, le-ltb, eqb-true, ltb-true, ltb-false}
 use Rattle.word.specs.Word.{label}
 use Rattle.readings.specs.declared.reading.WholeNumber.{WholeNumber}
 use Rattle.readings.specs.declared.encoding.Encoded.{Encoded}
-use Rattle.readings.specs.Signs.{minus}
-use Rattle.readings.specs.Bits.{field, sign, plus, minusSign, half, full, withField, withSign, twosComplement, twosField}
-use Rattle.readings.specs.Digits.{lower, greatestDecimal, digitAbove9, ofDigits, toDigits}
+use Rattle.reading_fields.specs.Signs.{minus}
+use Rattle.reading_fields.specs.Bits.{field, sign, plus, minusSign, half, full, withField, withSign, twosComplement, twosField}
+use Rattle.reading_fields.specs.Digits.{lower, greatestDecimal, digitAbove9, ofDigits, toDigits}
 use Rattle.readings.specs.declared.reading.Reading.the-variants.{Binary, Decimal, Bits, Refused}
-use Rattle.readings.specs.Entries.{binary, decimal, bitField, isDivisor, listWrong, entryFor}
+use Rattle.label_list.specs.Entries.{binary, decimal, bitField, isDivisor, listWrong, entryFor}
 use Rattle.readings.specs.Reading.{accepted, refused, decimalWhole, wholeBy, whole, inUnits, shown, readingBy, reading}
 use Rattle.readings.specs.Units.{ths, scaled, countOf}
 use Rattle.readings.specs.Encoding.{made, unmade, binaryEncoded, decimalEncoded, encodedBy, encoded}
-use Rattle.readings.proofs.Places.{field-is, field-rest, field-same, field-below-full, above-field, sign-is, sign-field, sign-rest, below-sign, sign-same, twos-told, twos-again, twos-below}
-use Rattle.readings.proofs.Decimal.{field-below, number-below, of-to, to-right, to-of}
-use Rattle.readings.proofs.Divisors.{divisor-power, divisor-of}
+use Rattle.reading_fields.proofs.Places.{field-is, field-rest, field-same, field-below-full, above-field, sign-is, sign-field, sign-rest, below-sign, sign-same, twos-told, twos-again, twos-below}
+use Rattle.reading_fields.proofs.Decimal.{field-below, number-below, of-to, to-right, to-of}
+use Rattle.label_list.proofs.Divisors.{divisor-power, divisor-of}
 use Rattle.readings.proofs.Exact.{units-exact, units-back}
 use Rattle.readings.proofs.Counts.{count-is, count-size as size-of, count-minus as sign-of}
 

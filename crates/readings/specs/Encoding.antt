@@ -8,10 +8,10 @@ use lib.IntN.{ℤ, natAbs}
 use lib.Signed.{mag}
 use Rattle.word.specs.Word.{label}
 use Rattle.readings.specs.declared.encoding.Encoded.{Encoded}
-use Rattle.readings.specs.Signs.{minus}
-use Rattle.readings.specs.Bits.{withField, withSign, plus, minusSign, half, twosField}
-use Rattle.readings.specs.Digits.{lower, greatestDecimal, toDigits}
-use Rattle.readings.specs.Entries.{binary, decimal, listWrong, entryFor}
+use Rattle.reading_fields.specs.Signs.{minus}
+use Rattle.reading_fields.specs.Bits.{withField, withSign, plus, minusSign, half, twosField}
+use Rattle.reading_fields.specs.Digits.{lower, greatestDecimal, toDigits}
+use Rattle.label_list.specs.Entries.{binary, decimal, listWrong, entryFor}
 
 -- a word with the number in it, or the number of a refusal with 0 beside it
 abbrev pub made : ℕ → Encoded

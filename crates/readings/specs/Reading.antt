@@ -7,14 +7,14 @@ use lib.IntN.{ℤ, pos}
 use lib.Ieee as Ieee
 use lib.Ieee.{Float, binary64}
 use Rattle.word.specs.Word.{label}
-use Rattle.readings.specs.declared.entries.Entry.{Entry}
+use Rattle.label_list.specs.declared.entries.Entry.{Entry}
 use Rattle.readings.specs.declared.reading.WholeNumber.{WholeNumber}
 use Rattle.readings.specs.declared.reading.Reading.{Reading}
 use Rattle.readings.specs.declared.reading.Reading.the-variants.{Binary, Decimal, Bits, Refused}
-use Rattle.readings.specs.Signs.{signed}
-use Rattle.readings.specs.Bits.{field, sign, plus, minusSign, twosComplement}
-use Rattle.readings.specs.Digits.{lower, digitAbove9, ofDigits}
-use Rattle.readings.specs.Entries.{binary, decimal, bitField, listWrong, entryFor}
+use Rattle.reading_fields.specs.Signs.{signed}
+use Rattle.reading_fields.specs.Bits.{field, sign, plus, minusSign, twosComplement}
+use Rattle.reading_fields.specs.Digits.{lower, digitAbove9, ofDigits}
+use Rattle.label_list.specs.Entries.{binary, decimal, bitField, listWrong, entryFor}
 
 -- a whole number, or the number of a refusal with 0 beside it
 abbrev pub accepted : ℤ → WholeNumber

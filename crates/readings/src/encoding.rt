@@ -1,12 +1,12 @@
 // A whole number put into a word, by the list.
-use crate::bits;
-use crate::digits;
-use crate::entries;
-use crate::entries::BINARY;
-use crate::entries::DECIMAL;
 use crate::reading::LIST_REFUSED;
 use crate::reading::NO_ENTRY;
-use crate::signs;
+use label_list::entries;
+use label_list::entries::BINARY;
+use label_list::entries::DECIMAL;
+use reading_fields::bits;
+use reading_fields::digits;
+use reading_fields::signs;
 ghost use mathlib.Core.Path.{_≡_};
 ghost use Rattle.readings.specs.Encoding.{unmade, binaryEncoded, decimalEncoded, encodedBy, encoded};
 

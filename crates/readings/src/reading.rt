@@ -1,12 +1,12 @@
 // What a word reads as, by the list.
-use crate::bits;
-use crate::digits;
-use crate::entries;
-use crate::entries::BINARY;
-use crate::entries::BIT_FIELD;
-use crate::entries::DECIMAL;
-use crate::entries::Entry;
-use crate::signs;
+use label_list::entries;
+use label_list::entries::BINARY;
+use label_list::entries::BIT_FIELD;
+use label_list::entries::DECIMAL;
+use label_list::entries::Entry;
+use reading_fields::bits;
+use reading_fields::digits;
+use reading_fields::signs;
 ghost use mathlib.Core.Path.{_≡_};
 ghost use Rattle.readings.specs.Reading.{decimalWhole, wholeBy, whole, inUnits, shown, readingBy, reading, numberOf, kindOf, unitsOf};
 

@@ -5,7 +5,7 @@ ghost use lib.Dec.{T};
 ghost use lib.IntN.{natAbs};
 ghost use lib.Ieee as Ieee;
 ghost use lib.Ieee.{binary64};
-ghost use Rattle.readings.specs.Signs.{minus};
+ghost use Rattle.reading_fields.specs.Signs.{minus};
 ghost use Rattle.readings.specs.Units.{scaled, countOf, firstDigit, nextRest};
 
 // Every number in units is a whole count of these.

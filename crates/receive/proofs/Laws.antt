@@ -16,23 +16,24 @@ use Rattle.ring.proofs.Words.{sets-other}
 use Rattle.ring.proofs.Laws.{take-oldest}
 use Rattle.block.specs.Layout.{word, parity, stamps, receiveMode, settings, receiveLevel, receivePosition, receiveSize, receiveAccepted, receiveRead, receiveOverwritten, receiveRing, receiveRingAt, messageMark, mailboxes, Whole}
 use Rattle.block.specs.Ranges.{leasts, greatests, Usable}
-use Rattle.block.specs.Counts.{counted}
+use Rattle.fifos.specs.Counts.{counted}
 use Rattle.status.specs.Status.{parityErrorSignal}
-use Rattle.block.specs.Fifos.{Offsets, receiveOffsets, transmitOffsets, entryAppended, entryOverwriting, Fifo, fifo, accepts, gives, overwrites, changed, overwrittenAfter}
-use Rattle.block.specs.Mailboxes.{mailboxAt, newMark, unlisted}
+use Rattle.fifos.specs.Fifos.{Offsets, receiveOffsets, transmitOffsets, entryAppended, entryOverwriting, Fifo, fifo, accepts, gives, overwrites, changed, overwrittenAfter}
+use Rattle.fifos.specs.Mailboxes.{mailboxAt, newMark, unlisted}
 use Rattle.block.proofs.Words.{words}
-use Rattle.block.proofs.Marks.{unlist-before, unlist-fifo, unlist-usable}
+use Rattle.fifos.proofs.Marks.{unlist-before, unlist-fifo, unlist-usable}
 use Rattle.block.proofs.Sound.{in-range, usable-level, usable-beyond}
-use Rattle.block.proofs.Keeps.{usable-store, usable-behind}
-use Rattle.block.proofs.Fifos.{Apart, receive-proper, store-apart, take-law, append-law, overwrite-law}
-use Rattle.receive.specs.Arrival.{arrival}
+use Rattle.settings.proofs.Keeps.{usable-store, usable-behind}
+use Rattle.fifos.proofs.Fifos.{Apart, receive-proper, store-apart, take-law, append-law, overwrite-law}
+use Rattle.arrival.specs.Arrival.{arrival}
 use Rattle.receive.specs.Entries.{stampOf, wordEntry, indexEntry, entryOf, mailOf, mailed}
 use Rattle.receive.specs.Arrived.{overwriting, stored, arrived, errorSignal, signalled, arrivalSignal}
-use Rattle.receive.specs.Reading.{shown, readAnswer, readAfter}
+use Rattle.receive_reads.specs.Reading.{shown, readAnswer, readAfter}
 use Rattle.receive.specs.Fates.{arrivalChange}
-use Rattle.receive.specs.declared.Arrival.{Arrival}
-use Rattle.receive.specs.declared.Arrival.the-variants.{Ignored, Filtered, Appended, Dropped, Overwriting, AlreadyListed}
-use Rattle.receive.proofs.Bounds.{bounds, mark-le, room, full, mail-keeps, mail-before}
+use Rattle.arrival.specs.declared.Arrival.{Arrival}
+use Rattle.arrival.specs.declared.Arrival.the-variants.{Ignored, Filtered, Appended, Dropped, Overwriting, AlreadyListed}
+use Rattle.fifos.proofs.Bounds.{bounds}
+use Rattle.receive.proofs.Stores.{mark-le, room, full, mail-keeps, mail-before}
 
 -- ---- entries
 

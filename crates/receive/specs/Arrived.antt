@@ -7,14 +7,14 @@ use lib.ListN.{set}
 use Rattle.word.specs.Parity.{errorMark}
 use Rattle.block.specs.Layout.{word, parity, receiveMode, receiveOverwritten}
 use Rattle.block.specs.Modes.{fifoMode}
-use Rattle.block.specs.Counts.{counted}
-use Rattle.block.specs.Mailboxes.{newMark, unlisted}
+use Rattle.fifos.specs.Counts.{counted}
+use Rattle.fifos.specs.Mailboxes.{newMark, unlisted}
 use Rattle.status.specs.Status.{parityErrorSignal}
-use Rattle.block.specs.Fifos.{receiveOffsets, entryAppended, entryOverwriting}
-use Rattle.receive.specs.Arrival.{arrival}
+use Rattle.fifos.specs.Fifos.{receiveOffsets, entryAppended, entryOverwriting}
+use Rattle.arrival.specs.Arrival.{arrival}
 use Rattle.receive.specs.Entries.{entryOf, mailed}
-use Rattle.receive.specs.declared.Arrival.{Arrival}
-use Rattle.receive.specs.declared.Arrival.the-variants.{Ignored, Filtered, Appended, Dropped, Overwriting, AlreadyListed}
+use Rattle.arrival.specs.declared.Arrival.{Arrival}
+use Rattle.arrival.specs.declared.Arrival.the-variants.{Ignored, Filtered, Appended, Dropped, Overwriting, AlreadyListed}
 
 -- "circular overwrites the oldest", which is counted as overwritten
 abbrev pub overwriting : List ℕ → List ℕ → List ℕ

@@ -8,7 +8,7 @@ use Rattle.word.specs.Word.{index}
 use Rattle.word.specs.Parity.{errorMark}
 use Rattle.block.specs.Layout.{word, parity, stamps, receiveMode}
 use Rattle.block.specs.Modes.{fifoMode}
-use Rattle.block.specs.Mailboxes.{mailboxAt}
+use Rattle.fifos.specs.Mailboxes.{mailboxAt}
 
 -- "stamp (0 with stamps off)"
 unfoldable pub stampOf : ℕ → ℕ → ℕ

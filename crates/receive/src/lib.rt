@@ -1,98 +1,36 @@
-// The receive side of a channel's block: what becomes of an arriving word, and the reads of the receive FIFO and of a mailbox.
-use block::layout::FIFO_KIND;
+// The receive side of a channel's block: an arriving word, stored as was decided, and what it signals.
+use arrival::Arrival;
+use arrival::decide;
 use block::layout::MAILBOXES;
-use block::layout::MATCH;
 use block::layout::PARITY;
 use block::layout::RECEIVE_ACCEPTED;
 use block::layout::RECEIVE_LEVEL;
 use block::layout::RECEIVE_MODE;
 use block::layout::RECEIVE_OVERWRITTEN;
 use block::layout::RECEIVE_POSITION;
-use block::layout::RECEIVE_READ;
 use block::layout::RECEIVE_RING;
-use block::layout::RECEIVE_SIZE;
-use block::layout::RECEIVER;
 use block::layout::STAMPS;
-use block::mailboxes::NEW;
-use block::mailboxes::take_mark;
-use block::mailboxes::unlist;
-use block::modes::BOUNDED;
 use block::modes::FIFO_MODE;
+use fifos::mailboxes::NEW;
+use fifos::mailboxes::unlist;
 use ring::Entry;
 use status::rule::PARITY_ERROR;
 ghost use mathlib.Core.Path.{_≡_};
 ghost use Prim.Native.Nat.{_<_, _≤_};
 ghost use Rattle.ring.specs.Ring.{slots};
 ghost use Rattle.ring.specs.Entry.{fields};
-ghost use Rattle.block.specs.Layout.{word, receiveLevel, indexes};
+ghost use Rattle.block.specs.Layout.{word, receiveLevel};
 ghost use Rattle.block.specs.Ranges.{Usable};
-ghost use Rattle.block.specs.Mailboxes.{newMark};
-ghost use Rattle.block.specs.Fifos.{receiveOffsets, entryAppended};
-ghost use Rattle.receive.specs.Arrival.{filtered, listed, arrival};
+ghost use Rattle.fifos.specs.Mailboxes.{newMark};
+ghost use Rattle.fifos.specs.Fifos.{receiveOffsets, entryAppended};
+ghost use Rattle.arrival.specs.Arrival.{arrival};
 ghost use Rattle.receive.specs.Entries.{stampOf, entryOf, mailed};
 ghost use Rattle.receive.specs.Arrived.{overwriting, stored, arrived, signalled, arrivalSignal};
-ghost use Rattle.receive.specs.Reading.{shown, readAnswer, readAfter, mailboxAnswer, mailboxAfter};
-
-// What became of an arriving word: ignored with the receiver off; not in the match set; appended; dropped by a full bounded FIFO; appended
-// over the oldest of a full circular FIFO; its index, in mailbox mode, not appended again while its mailbox is new.
-pub enum Arrival {
-    Ignored,
-    Filtered,
-    Appended,
-    Dropped,
-    Overwriting,
-    AlreadyListed,
-}
 
 // The answer to an arrival: what became of it, and the mask of the conditions that it signals.
 pub struct Arrived {
     pub arrival: Arrival,
     pub signal: u32,
-}
-
-// Whether the match set filters a word out.
-fn is_filtered(block: &[u32], word: u32) -> bool
-    requires { ⌜ Usable (now block) ⌝ }
-    ensures { λ r. ⌜ r ≡ filtered word (now (block .entry)) ⌝ }
-{
-    if block[MATCH] == 0 {
-        return false;
-    }
-    block::matching::read(block, word::index(word)) == 0
-}
-
-// Whether a word's index is not to be listed again: in mailbox mode its mailbox still has the new mark.
-fn is_listed(block: &[u32], word: u32) -> bool
-    requires { ⌜ Usable (now block) ⌝ }
-    ensures { λ r. ⌜ r ≡ listed word (now (block .entry)) ⌝ }
-{
-    if block[RECEIVE_MODE] == FIFO_MODE {
-        return false;
-    }
-    block[MAILBOXES + 3 * (word::index(word) as usize)] / NEW % 2 == 1
-}
-
-// What becomes of a word, decided before anything is stored.
-fn decide(block: &[u32], word: u32) -> Arrival
-    requires { ⌜ Usable (now block) ⌝ }
-    ensures { λ r. ⌜ r ≡ arrival word (now (block .entry)) ⌝ }
-{
-    if block[RECEIVER] == 0 {
-        return Arrival::Ignored;
-    }
-    if is_filtered(block, word) {
-        return Arrival::Filtered;
-    }
-    if is_listed(block, word) {
-        return Arrival::AlreadyListed;
-    }
-    if block[RECEIVE_LEVEL] < block[RECEIVE_SIZE] {
-        return Arrival::Appended;
-    }
-    if block[FIFO_KIND] == BOUNDED {
-        return Arrival::Dropped;
-    }
-    Arrival::Overwriting
 }
 
 // The stamp that is stored, by the channel's stamps setting.
@@ -226,47 +164,4 @@ pub fn arrive(block: &mut [u32], stamp: u32, word: u32) -> Arrived
         arrival: decision,
         signal,
     }
-}
-
-// An entry as a read shows it: of its status the two low bits count.
-fn shown(entry: Entry) -> Entry
-    ensures { λ r. ⌜ fields r ≡ shown (fields entry) ⌝ }
-{
-    Entry {
-        status: entry.status % 4,
-        word: entry.word,
-        stamp: entry.stamp,
-    }
-}
-
-// Takes the oldest entry out of the receive FIFO.
-pub fn read_fifo(block: &mut [u32]) -> Entry
-    requires { ⌜ (Usable (now block)) × (0 < word (now block) receiveLevel) ⌝ }
-    ensures { λ r. ⌜ (fields r ≡ readAnswer (now (block .entry)))
-        × (now (block .exit) ≡ readAfter (now (block .entry))) ⌝ }
-{
-    let position = block[RECEIVE_POSITION];
-    let level = block[RECEIVE_LEVEL];
-    let count = block[RECEIVE_READ];
-    let oldest = ring::oldest3(block, RECEIVE_RING, position);
-    block[RECEIVE_LEVEL] = level - 1;
-    block[RECEIVE_POSITION] = ring::next(position);
-    block[RECEIVE_READ] = std::num::wrapping_add_u32(count, 1);
-    shown(oldest)
-}
-
-// Reads a mailbox, which is then no longer new.
-pub fn read_mailbox(block: &mut [u32], index: u32) -> Entry
-    requires { ⌜ (Usable (now block)) × (index < indexes) ⌝ }
-    ensures { λ r. ⌜ (fields r ≡ mailboxAnswer index (now (block .entry)))
-        × (now (block .exit) ≡ mailboxAfter index (now (block .entry))) ⌝ }
-{
-    let at = MAILBOXES + 3 * (index as usize);
-    let entry = Entry {
-        status: block[at],
-        word: block[at + 1],
-        stamp: block[at + 2],
-    };
-    take_mark(block, index);
-    shown(entry)
 }

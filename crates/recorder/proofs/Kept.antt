@@ -8,7 +8,7 @@ use borrow.Author.Tests.{eq-eqb, ne-eqb}
 use lib.Dec.{eqb}
 use lib.ListN.{length, getD, replicate}
 use Rattle.little_endian.specs.LittleEndian.{wordAt}
-use Rattle.calls.specs.Items.{decoded, wideOf}
+use Rattle.items.specs.Items.{decoded, wideOf}
 use Rattle.calls.specs.Listed.{Lists}
 use Rattle.calls.specs.Performed.{itemNumbers, itemAfter}
 use Rattle.calls.specs.declared.answers.Numbers.{Numbers}

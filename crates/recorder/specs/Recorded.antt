@@ -5,7 +5,7 @@ use mathlib.Core.List.{List, []}
 use lib.Dec.{eqb}
 use lib.ListN.{length, getD}
 use Rattle.little_endian.specs.LittleEndian.{wordAt}
-use Rattle.calls.specs.Items.{decoded}
+use Rattle.items.specs.Items.{decoded}
 use Rattle.calls.specs.Performed.{itemNumbers, itemAfter}
 use Rattle.sessions.specs.Sessions.{itemAt}
 use Rattle.capture.specs.Format.{Record, made, arrival}

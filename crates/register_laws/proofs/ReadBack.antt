@@ -11,7 +11,7 @@ use lib.ListN.{length, set, length-set}
 use lib.Seq.{getD-set-same, getD-set-other}
 use Rattle.schedule.specs.Codes.{last, lastMessage}
 use Rattle.block.specs.Layout.{word, rate, latch, asyncMark, asyncWord, messageRam, scheduleRam}
-use Rattle.block.specs.Settings.{written}
+use Rattle.settings.specs.Settings.{written}
 use Rattle.channel.specs.Channel.{blockAnswer, blockAfter}
 use Rattle.channel_calls.specs.Refusals.{channelRefusal}
 use Rattle.channel_calls.specs.Answers.{isRefused}

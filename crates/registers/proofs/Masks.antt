@@ -8,7 +8,7 @@ use native.Mathlib.Nat.{pow-suc}
 use native.Mathlib.Numerals.{add-one}
 use native.Mathlib.Omega.{arith}
 use borrow.Author.Tests.{ne-eqb}
-use Rattle.block.specs.Matching.{bitAt}
+use Rattle.bits.specs.Bits.{bitAt}
 use Rattle.channel_calls.specs.Answers.{isRefused}
 use Rattle.channel_calls.specs.declared.calls.Answer.{Answer}
 use Rattle.channel_calls.specs.declared.calls.ChannelCall.{ChannelCall}

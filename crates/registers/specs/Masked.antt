@@ -3,7 +3,7 @@ use Prim.Native.Nat.{ℕ, zero, suc, _+_, _-_, _^_}
 use mathlib.Core.List.{List}
 use mathlib.Core.Bool.{Bool, cond, not}
 use lib.Dec.{eqb}
-use Rattle.block.specs.Matching.{bitAt}
+use Rattle.bits.specs.Bits.{bitAt}
 use Rattle.block.specs.Refusals.{leaveUnless}
 use Rattle.channel_calls.specs.Answers.{answerUnless, isRefused}
 use Rattle.channel_calls.specs.declared.calls.TransmitCall.the-variants.{Trigger, Pause, Stop}

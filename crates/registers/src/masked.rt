@@ -1,6 +1,6 @@
 // A masked write: trigger, pause or stop, on each channel that the mask names.
 use crate::map::Control;
-use block::matching::weight;
+use bits::weight;
 use channel_calls::calls::Answer;
 use channel_calls::calls::ChannelCall;
 use channel_calls::calls::TransmitCall;

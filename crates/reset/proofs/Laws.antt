@@ -6,8 +6,8 @@ use mathlib.Core.List.{List}
 use native.Mathlib.Omega.{arith}
 use lib.ListN.{length, drop, length-drop, length-set, List·getD-append}
 use Rattle.block.specs.Layout.{word}
-use Rattle.block.proofs.Marks.{unlist-length}
-use Rattle.status.specs.Tests.{blockReset}
+use Rattle.fifos.proofs.Marks.{unlist-length}
+use Rattle.restart.specs.Tests.{blockReset}
 use Rattle.frame.specs.Layout.{count, layout, moduleWords, Framed, block}
 use Rattle.frame.proofs.Blocks.{block-length, block-behind}
 use Rattle.frame.proofs.Each.{Own, each-length, each-block}

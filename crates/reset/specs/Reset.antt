@@ -4,7 +4,7 @@ use mathlib.Core.List.{List, _++_}
 use lib.ListN.{drop}
 use Rattle.block.specs.Layout.{word}
 use Rattle.block.specs.Refusals.{leaveUnless}
-use Rattle.status.specs.Tests.{blockReset}
+use Rattle.restart.specs.Tests.{blockReset}
 use Rattle.frame.specs.Layout.{count, layout, moduleWords, block}
 use Rattle.frame.specs.Each.{eachTo}
 use Rattle.frame.specs.Refusals.{wideRefusal}

@@ -17,7 +17,7 @@ fn reset_channel(mem: &mut [u32], channel: u32)
 {
     let from = MODULE_WORDS + ((channel - 1) as usize) * WORDS;
     let to = from + WORDS;
-    status::tests::reset(&mut mem[from..to]);
+    restart::reset(&mut mem[from..to]);
 }
 
 // Resets the block of every channel.

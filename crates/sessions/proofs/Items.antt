@@ -6,9 +6,9 @@ use mathlib.Core.List.{List}
 use native.Mathlib.Omega.{arith}
 use lib.ListN.{length}
 use Rattle.little_endian.specs.LittleEndian.{wordAt}
-use Rattle.calls.specs.Items.{decoded}
+use Rattle.items.specs.Items.{decoded}
 use Rattle.calls.specs.Performed.{itemAfter}
-use Rattle.calls.specs.declared.items.Item.{Item}
+use Rattle.items.specs.declared.Item.{Item}
 use Rattle.sessions.specs.Sessions.{itemBytes, itemAt, performed}
 
 pub made-of : (bytes : List ℕ) (at op ch a b : ℕ) → op ≡ wordAt bytes at → ch ≡ wordAt bytes (at + 4) → a ≡ wordAt bytes (at + 8) → b ≡ wordAt bytes (at + 12)

@@ -2,9 +2,9 @@
 use Prim.Native.Nat.{ℕ, zero, suc, _+_, _*_}
 use mathlib.Core.List.{List}
 use Rattle.little_endian.specs.LittleEndian.{wordAt}
-use Rattle.calls.specs.Items.{decoded}
+use Rattle.items.specs.Items.{decoded}
 use Rattle.calls.specs.Performed.{itemAfter}
-use Rattle.calls.specs.declared.items.Item.{Item}
+use Rattle.items.specs.declared.Item.{Item}
 
 -- the bytes of an item
 abbrev pub itemBytes : ℕ

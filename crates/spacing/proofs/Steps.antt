@@ -9,7 +9,7 @@ use native.Mathlib.Omega.{arith}
 use lib.Dec.{eqb}
 use lib.ListN.{take}
 use Rattle.block.specs.Layout.{word, settings, messageMark}
-use Rattle.block.specs.Kept.{Kept}
+use Rattle.settings.specs.Kept.{Kept}
 use Rattle.schedule.specs.Spacing.{Item, Forgotten}
 use Rattle.schedule.proofs.Spacing.{Each, Apart}
 use Rattle.channel.specs.Channel.{blockAnswer}

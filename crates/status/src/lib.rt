@@ -1,3 +1,2 @@
-// Faults and status of a channel: the conditions and the rule on its block, the initiated test and its part of a module reset.
+// Faults and status of a channel: the conditions and the rule on its block.
 pub mod rule;
-pub mod tests;

@@ -1,4 +1,5 @@
 // Three channels in one lent memory: words arrive on the first and are read, a schedule runs on the second, the third overruns.
+use arrival::Arrival;
 use block::layout::WORDS;
 use block::modes::CIRCULAR;
 use block::modes::SCHEDULED;
@@ -15,7 +16,6 @@ use frame::layout::MODULE_WORDS;
 use libc::STDOUT_FILENO;
 use module::calls::Call;
 use module::perform::perform;
-use receive::Arrival;
 use schedule::Output;
 
 fn write(text: &[u8]) {

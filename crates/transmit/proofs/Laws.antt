@@ -17,10 +17,10 @@ use Rattle.ring.specs.Ring.{slot, slots, next, words}
 use Rattle.ring.proofs.Laws.{take-oldest}
 use Rattle.block.specs.Layout.{word, settings, transmitter, parity, rate, receiveOverwritten, transmitLevel, transmitPosition, transmitAccepted, transmitSent, transmitMode, transmitRing, state, address, asyncMark, messageMark, asyncWord, ranged}
 use Rattle.block.specs.Ranges.{leasts, greatests, inRange, Usable}
-use Rattle.block.specs.Counts.{counted}
-use Rattle.block.specs.Fifos.{receiveOffsets, transmitOffsets, entryTaken, fifo, accepts, gives}
+use Rattle.fifos.specs.Counts.{counted}
+use Rattle.fifos.specs.Fifos.{receiveOffsets, transmitOffsets, entryTaken, fifo, accepts, gives}
 use Rattle.block.proofs.Sound.{in-range, at-most, usable-set}
-use Rattle.block.proofs.Fifos.{Apart, transmit-proper, store-apart, append-law, take-law}
+use Rattle.fifos.proofs.Fifos.{Apart, transmit-proper, store-apart, append-law, take-law}
 use Rattle.schedule.specs.Codes.{idle, running, paused, last}
 use Rattle.schedule.specs.Output.{isFifoWord}
 use Rattle.schedule.specs.declared.Output.{Output}

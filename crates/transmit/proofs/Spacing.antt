@@ -8,7 +8,7 @@ use lib.Dec.{eqb}
 use lib.ListN.{set}
 use Rattle.block.specs.Layout.{word, transmitter, parity, transmitLevel, transmitMode, state, messageMark}
 use Rattle.block.specs.Ranges.{Usable}
-use Rattle.block.specs.Fifos.{transmitOffsets, entryTaken}
+use Rattle.fifos.specs.Fifos.{transmitOffsets, entryTaken}
 use Rattle.block.specs.Modes.{immediate, triggered}
 use Rattle.block.proofs.Words.{words}
 use Rattle.schedule.specs.Codes.{idle, running, paused}

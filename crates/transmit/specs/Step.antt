@@ -6,8 +6,8 @@ use lib.Dec.{eqb}
 use lib.ListN.{getD, set}
 use Rattle.word.specs.Parity.{asSent}
 use Rattle.block.specs.Layout.{word, transmitter, parity, transmitMode, rate, transmitLevel, state, address, asyncMark, messageMark, asyncWord, messageRam, scheduleRam}
-use Rattle.block.specs.Fifos.{transmitOffsets, oldestEntry, entryTaken}
-use Rattle.block.specs.Memories.{ramRead}
+use Rattle.fifos.specs.Fifos.{transmitOffsets, oldestEntry, entryTaken}
+use Rattle.memories.specs.Memories.{ramRead}
 use Rattle.status.specs.Status.{interruptSignal}
 use Rattle.schedule.specs.Codes.{idle, running, paused, messageAddress}
 use Rattle.schedule.specs.Schedule.{stepped}

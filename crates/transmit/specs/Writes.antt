@@ -4,7 +4,7 @@ use mathlib.Core.List.{List, [], _∷_}
 use lib.ListN.{set}
 use Rattle.ring.specs.Ring.{slots}
 use Rattle.block.specs.Layout.{word, transmitLevel, asyncMark, asyncWord}
-use Rattle.block.specs.Fifos.{transmitOffsets, entryAppended}
+use Rattle.fifos.specs.Fifos.{transmitOffsets, entryAppended}
 
 -- not "written while it holds 255"
 abbrev pub HasRoom : List ℕ → Type 0

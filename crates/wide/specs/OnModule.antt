@@ -2,7 +2,7 @@
 use Prim.Native.Nat.{ℕ}
 use mathlib.Core.List.{List}
 use lib.ListN.{set}
-use Rattle.block.specs.Counts.{counted}
+use Rattle.fifos.specs.Counts.{counted}
 use Rattle.block.specs.Layout.{word}
 use Rattle.channel_calls.specs.declared.calls.Answer.{Answer}
 use Rattle.channel_calls.specs.declared.calls.Answer.the-variants.{Done, Value}

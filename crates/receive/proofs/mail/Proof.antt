@@ -1,6 +1,6 @@
 -- `receive::mail` meets its contract: its three stores are those of the definition.
 -- Assumes nothing.
-use Rattle.receive.proofs.Bounds.{mail-stores, mark-fits}
+use Rattle.receive.proofs.Stores.{mail-stores, mark-fits}
 use Rattle.word.proofs.Branches.{branches}
 use native.Mathlib.Omega.{arith}
 use lib.ListN.{length-set}

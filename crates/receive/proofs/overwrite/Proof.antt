@@ -2,7 +2,7 @@
 -- Assumes nothing.
 use native.Mathlib.Omega.{arith}
 use lib.ListN.{length-set}
-use Rattle.receive.proofs.Bounds.{bounds}
+use Rattle.fifos.proofs.Bounds.{bounds}
 use borrow.Author.Needs.{needs}
 use Rattle.receive.proofs.overwrite.Statement.{statement}
 use Rattle.receive.proofs.overwrite.Tie as tie

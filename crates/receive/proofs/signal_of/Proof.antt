@@ -1,6 +1,6 @@
 -- `receive::signal_of` meets its contract: each arm is a case of the definition.
 -- Assumes nothing.
-use Rattle.receive.proofs.Bounds.{mark-fits}
+use Rattle.receive.proofs.Stores.{mark-fits}
 use borrow.Author.Tests.{eq-eqb, ne-eqb}
 use Rattle.word.proofs.Branches.{branches}
 use native.Mathlib.Omega.{arith}

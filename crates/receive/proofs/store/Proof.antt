@@ -1,6 +1,6 @@
 -- `receive::store` meets its contract: each arm is a case of the definition, from what its calls ensure.
 -- Assumes nothing.
-use Rattle.receive.proofs.Bounds.{mail-usable, mail-room, unlist-left, store-appended, store-dropped, store-overwriting, store-listed}
+use Rattle.receive.proofs.Stores.{mail-usable, mail-room, unlist-left, store-appended, store-dropped, store-overwriting, store-listed}
 use Rattle.receive.specs.Arrived.{stored}
 use native.Mathlib.Omega.{arith}
 use borrow.Author.Needs.{needs}

@@ -1,7 +1,7 @@
 -- `recorder::stamp` meets its contract: the second number of a stamp read, which changes nothing.
 -- Assumes nothing.
 use mathlib.Core.Path.{_∙_}
-use Rattle.calls.specs.Items.{decoded}
+use Rattle.items.specs.Items.{decoded}
 use Rattle.calls.specs.Performed.{itemNumbers}
 use Rattle.recorder.specs.Recorded.{readStamp, stampOf}
 use Rattle.recorder.proofs.Kept.{listed, unchanged}

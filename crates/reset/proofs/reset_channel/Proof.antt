@@ -1,4 +1,4 @@
--- `reset::reset_channel` meets its contract: the channel's block, from what `status::tests::reset` ensures of the part that is lent.
+-- `reset::reset_channel` meets its contract: the channel's block, from what `restart::reset` ensures of the part that is lent.
 -- Assumes nothing.
 use mathlib.Core.Path.{refl}
 use Rattle.frame.proofs.Blocks.{part-is, put-is}

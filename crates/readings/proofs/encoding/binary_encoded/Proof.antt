@@ -7,8 +7,8 @@ use native.Mathlib.Omega.{arith}
 use lib.Signed.{mag}
 use mir.Facts.{toZ-ofZ}
 use Rattle.word.proofs.Branches.{branches}
-use Rattle.readings.specs.Signs.{minus}
-use Rattle.readings.specs.Bits.{half}
+use Rattle.reading_fields.specs.Signs.{minus}
+use Rattle.reading_fields.specs.Bits.{half}
 use Rattle.readings.specs.Encoding.{binaryEncoded}
 use borrow.Author.Needs.{needs}
 use Rattle.readings.proofs.encoding.binary_encoded.Statement.{statement}

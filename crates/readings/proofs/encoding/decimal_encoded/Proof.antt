@@ -7,10 +7,10 @@ use native.Mathlib.Omega.{arith}
 use lib.IntN.{natAbs}
 use mir.Facts.{toZ-ofZ}
 use Rattle.word.proofs.Branches.{branches}
-use Rattle.readings.specs.Signs.{minus}
-use Rattle.readings.specs.Digits.{lower, greatestDecimal}
+use Rattle.reading_fields.specs.Signs.{minus}
+use Rattle.reading_fields.specs.Digits.{lower, greatestDecimal}
 use Rattle.readings.specs.Encoding.{decimalEncoded}
-use Rattle.readings.proofs.Decimal.{field-below}
+use Rattle.reading_fields.proofs.Decimal.{field-below}
 use borrow.Author.Needs.{needs}
 use Rattle.readings.proofs.encoding.decimal_encoded.Statement.{statement}
 use Rattle.readings.proofs.encoding.decimal_encoded.Tie as tie

@@ -8,10 +8,10 @@ use mir.Syntax.{w32}
 use mir.Val.{SFits}
 use mir.Facts.{toZ-ofZ}
 use Rattle.word.proofs.Branches.{branches}
-use Rattle.readings.specs.Bits.{field, sign, plus, minusSign}
-use Rattle.readings.specs.Digits.{lower, digitAbove9}
+use Rattle.reading_fields.specs.Bits.{field, sign, plus, minusSign}
+use Rattle.reading_fields.specs.Digits.{lower, digitAbove9}
 use Rattle.readings.specs.Reading.{decimalWhole}
-use Rattle.readings.proofs.Decimal.{digits-le}
+use Rattle.reading_fields.proofs.Decimal.{digits-le}
 use borrow.Author.Needs.{needs}
 use Rattle.readings.proofs.reading.decimal_whole.Statement.{statement}
 use Rattle.readings.proofs.reading.decimal_whole.Tie as tie

@@ -7,7 +7,7 @@ use mir.Syntax.{w32}
 use mir.Val.{SFits}
 use mir.Facts.{toZ-ofZ, toZ-pos}
 use Rattle.word.proofs.Branches.{branches}
-use Rattle.readings.specs.Bits.{field}
+use Rattle.reading_fields.specs.Bits.{field}
 use Rattle.readings.specs.Reading.{wholeBy}
 use borrow.Author.Needs.{needs}
 use Rattle.readings.proofs.reading.whole_by.Statement.{statement}

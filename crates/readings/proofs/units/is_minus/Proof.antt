@@ -1,7 +1,7 @@
 -- `readings::units::is_minus` meets its contract: the two signs.
 -- Assumes nothing.
 use mir.Syntax.{w64}
-use Rattle.readings.proofs.Whole.{below}
+use Rattle.reading_fields.proofs.Whole.{below}
 use Rattle.readings.proofs.units.is_minus.Statement.{statement}
 use Rattle.readings.proofs.units.is_minus.Tie as tie
 

@@ -5,7 +5,7 @@ use native.Mathlib.Omega.{arith}
 use lib.IntN.{natAbs}
 use mir.Syntax.{w64}
 use mir.Facts.{toZ-ofZ}
-use Rattle.readings.proofs.Whole.{turned, kept, cast, size-minus, size-plus}
+use Rattle.reading_fields.proofs.Whole.{turned, kept, cast, size-minus, size-plus}
 use borrow.Author.Needs.{needs}
 use Rattle.readings.proofs.units.size.Statement.{statement}
 use Rattle.readings.proofs.units.size.Tie as tie

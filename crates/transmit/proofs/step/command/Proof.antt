@@ -8,7 +8,7 @@ use native.Mathlib.Omega.{arith}
 use lib.ListN.{length, getD, take, drop, length-take, length-drop}
 use lib.Seq.{getD-take, getD-drop}
 use Rattle.block.specs.Layout.{word, parity, address, messageRam, scheduleRam}
-use Rattle.block.specs.Memories.{ramRead}
+use Rattle.memories.specs.Memories.{ramRead}
 use Rattle.block.specs.Ranges.{Usable}
 use Rattle.schedule.specs.Codes.{messages, commands, messageAddress}
 use Rattle.schedule.specs.Schedule.{stepAt}

@@ -1,0 +1,3 @@
+pub mod Fifos
+pub mod Marks
+pub mod Bounds

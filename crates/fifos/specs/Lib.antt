@@ -1,0 +1,4 @@
+pub mod Counts
+pub mod Clearing
+pub mod Mailboxes
+pub mod Fifos

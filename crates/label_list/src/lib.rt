@@ -1,0 +1,2 @@
+// The label list that a site supplies.
+pub mod entries;

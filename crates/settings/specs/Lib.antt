@@ -1,0 +1,3 @@
+pub mod Factory
+pub mod Settings
+pub mod Kept

@@ -1,0 +1,3 @@
+// A channel's twelve settings: factory values, refusals of a value, and writing one.
+pub mod factory;
+pub mod writing;
