@@ -11,7 +11,8 @@ pub const NO_CALL: u32 = 42;
 
 // Performs an item's access and lists its answer: any memory and any words. An item that is no call changes nothing.
 pub fn perform_item(mem: &mut [u32], op: u32, channel: u32, a: u32, b: u32) -> Numbers
-    ensures { λ r. ⌜ (Lists r (itemNumbers (decoded op channel a b) (now (mem .entry)))) × (now (mem .exit) ≡ itemAfter (decoded op channel a b) (now (mem .entry))) ⌝ }
+    ensures answer { λ r. ⌜ Lists r (itemNumbers (decoded op channel a b) (now (mem .entry))) ⌝ }
+    ensures after { λ r. ⌜ now (mem .exit) ≡ itemAfter (decoded op channel a b) (now (mem .entry)) ⌝ }
 {
     let item = items::decode(op, channel, a, b);
     match item {

@@ -9,6 +9,7 @@ use channel_calls::calls::TransmitCall;
 use module::calls::Call;
 use registers::accesses::Access;
 use wide::calls::WideCall;
+use wide::calls::WideEffect;
 ghost use mathlib.Core.Path.{_≡_};
 ghost use Prim.Native.Nat.{_≤_};
 ghost use Rattle.channel_calls.specs.Answers.{settingValues, memoryValues, statusValues, readValues, receiveValues, transmitValues, channelValues};
@@ -16,7 +17,8 @@ ghost use Rattle.module.specs.Perform.{wideValues, values};
 ghost use Rattle.registers.specs.Access.{accessValues};
 
 fn setting_values(call: SettingCall) -> usize
-    ensures { λ r. ⌜ (r ≡ settingValues call) × (r ≤ 7) ⌝ }
+    ensures value { λ r. ⌜ r ≡ settingValues call ⌝ }
+    ensures bound { λ r. ⌜ r ≤ 7 ⌝ }
 {
     match call {
         SettingCall::WriteSetting(_, _) => 0,
@@ -25,7 +27,8 @@ fn setting_values(call: SettingCall) -> usize
 }
 
 fn memory_values(call: MemoryCall) -> usize
-    ensures { λ r. ⌜ (r ≡ memoryValues call) × (r ≤ 7) ⌝ }
+    ensures value { λ r. ⌜ r ≡ memoryValues call ⌝ }
+    ensures bound { λ r. ⌜ r ≤ 7 ⌝ }
 {
     match call {
         MemoryCall::WriteMatch(_, _) => 0,
@@ -38,7 +41,8 @@ fn memory_values(call: MemoryCall) -> usize
 }
 
 fn status_values(call: StatusCall) -> usize
-    ensures { λ r. ⌜ (r ≡ statusValues call) × (r ≤ 7) ⌝ }
+    ensures value { λ r. ⌜ r ≡ statusValues call ⌝ }
+    ensures bound { λ r. ⌜ r ≤ 7 ⌝ }
 {
     match call {
         StatusCall::ReadStatus => 1,
@@ -52,7 +56,8 @@ fn status_values(call: StatusCall) -> usize
 }
 
 fn read_values(call: ReadCall) -> usize
-    ensures { λ r. ⌜ (r ≡ readValues call) × (r ≤ 7) ⌝ }
+    ensures value { λ r. ⌜ r ≡ readValues call ⌝ }
+    ensures bound { λ r. ⌜ r ≤ 7 ⌝ }
 {
     match call {
         ReadCall::ReadCounts => 7,
@@ -63,7 +68,8 @@ fn read_values(call: ReadCall) -> usize
 }
 
 fn receive_values(call: ReceiveCall) -> usize
-    ensures { λ r. ⌜ (r ≡ receiveValues call) × (r ≤ 7) ⌝ }
+    ensures value { λ r. ⌜ r ≡ receiveValues call ⌝ }
+    ensures bound { λ r. ⌜ r ≤ 7 ⌝ }
 {
     match call {
         ReceiveCall::Arrive(_) => 1,
@@ -73,7 +79,8 @@ fn receive_values(call: ReceiveCall) -> usize
 }
 
 fn transmit_values(call: TransmitCall) -> usize
-    ensures { λ r. ⌜ (r ≡ transmitValues call) × (r ≤ 7) ⌝ }
+    ensures value { λ r. ⌜ r ≡ transmitValues call ⌝ }
+    ensures bound { λ r. ⌜ r ≤ 7 ⌝ }
 {
     match call {
         TransmitCall::WriteFifo(_) => 0,
@@ -86,7 +93,8 @@ fn transmit_values(call: TransmitCall) -> usize
 }
 
 fn channel_values(call: ChannelCall) -> usize
-    ensures { λ r. ⌜ (r ≡ channelValues call) × (r ≤ 7) ⌝ }
+    ensures value { λ r. ⌜ r ≡ channelValues call ⌝ }
+    ensures bound { λ r. ⌜ r ≤ 7 ⌝ }
 {
     match call {
         ChannelCall::Settings(k) => setting_values(k),
@@ -100,21 +108,20 @@ fn channel_values(call: ChannelCall) -> usize
 }
 
 fn wide_values(call: WideCall) -> usize
-    ensures { λ r. ⌜ (r ≡ wideValues call) × (r ≤ 7) ⌝ }
+    ensures value { λ r. ⌜ r ≡ wideValues call ⌝ }
+    ensures bound { λ r. ⌜ r ≤ 7 ⌝ }
 {
-    match call {
-        WideCall::AdvanceStamp(_) => 0,
-        WideCall::ZeroStamp => 0,
-        WideCall::ReadStamp => 1,
-        WideCall::WriteResolution(_) => 0,
-        WideCall::ReadResolution => 1,
-        WideCall::WriteThreshold(_) => 0,
-        WideCall::ReadThreshold => 1,
+    let effect = wide::effects::effect_of(call);
+    match effect {
+        WideEffect::Shows(_) => 1,
+        WideEffect::Stores(_, _) => 0,
+        WideEffect::Advances(_) => 0,
     }
 }
 
 fn call_values(call: Call) -> usize
-    ensures { λ r. ⌜ (r ≡ values call) × (r ≤ 7) ⌝ }
+    ensures value { λ r. ⌜ r ≡ values call ⌝ }
+    ensures bound { λ r. ⌜ r ≤ 7 ⌝ }
 {
     match call {
         Call::PowerUp(_) => 0,
@@ -126,7 +133,8 @@ fn call_values(call: Call) -> usize
 
 // At most seven.
 pub fn values(access: Access) -> usize
-    ensures { λ r. ⌜ (r ≡ accessValues access) × (r ≤ 7) ⌝ }
+    ensures value { λ r. ⌜ r ≡ accessValues access ⌝ }
+    ensures bound { λ r. ⌜ r ≤ 7 ⌝ }
 {
     match access {
         Access::Direct(call) => call_values(call),

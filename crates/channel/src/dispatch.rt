@@ -20,7 +20,8 @@ ghost use Rattle.channel.specs.Channel.{answerShown, blockAnswer, blockA
 
 // An answer that signals nothing.
 fn quiet(answer: Answer) -> Did
-    ensures { λ r. ⌜ (r .answer ≡ answer) × (r .signal ≡ 0) ⌝ }
+    ensures answer { λ r. ⌜ r .answer ≡ answer ⌝ }
+    ensures signal { λ r. ⌜ r .signal ≡ 0 ⌝ }
 {
     Did { answer, signal: 0 }
 }
@@ -28,7 +29,9 @@ fn quiet(answer: Answer) -> Did
 // Does an accepted call, without the rule.
 fn act(block: &mut [u32], stamp: u32, call: ChannelCall) -> Did
     requires { ⌜ (Usable (now block)) × (channelRefusal call (now block) ≡ 0) ⌝ }
-    ensures { λ r. ⌜ (r .answer ≡ didAnswer call (now (block .entry))) × (r .signal ≡ didSignal call (now (block .entry))) × (now (block .exit) ≡ didLeave stamp call (now (block .entry))) ⌝ }
+    ensures answer { λ r. ⌜ r .answer ≡ didAnswer call (now (block .entry)) ⌝ }
+    ensures signal { λ r. ⌜ r .signal ≡ didSignal call (now (block .entry)) ⌝ }
+    ensures after { λ r. ⌜ now (block .exit) ≡ didLeave stamp call (now (block .entry)) ⌝ }
 {
     match call {
         ChannelCall::Settings(k) => quiet(on_setting(block, k)),
@@ -63,7 +66,8 @@ fn show(block: &[u32], call: ChannelCall, answer: Answer) -> Answer
 // An accepted call on a channel's block.
 pub fn on_block(block: &mut [u32], given: Given, call: ChannelCall) -> Answer
     requires { ⌜ (Usable (now block)) × (channelRefusal call (now block) ≡ 0) × (given .before ≤ 1) × (given .after ≤ 1) ⌝ }
-    ensures { λ r. ⌜ (r ≡ blockAnswer given call (now (block .entry))) × (now (block .exit) ≡ blockAfter given call (now (block .entry))) ⌝ }
+    ensures answer { λ r. ⌜ r ≡ blockAnswer given call (now (block .entry)) ⌝ }
+    ensures after { λ r. ⌜ now (block .exit) ≡ blockAfter given call (now (block .entry)) ⌝ }
 {
     let before = status::rule::holding(given.before, block);
     let did = act(block, given.stamp, call);

@@ -53,7 +53,8 @@ fn first(a: u32, b: u32) -> u32
 
 // A setting's number.
 pub fn setting_number(setting: Setting) -> usize
-    ensures { λ r. ⌜ (r ≡ settingNumber setting) × (r < settings) ⌝ }
+    ensures value { λ r. ⌜ r ≡ settingNumber setting ⌝ }
+    ensures bound { λ r. ⌜ r < settings ⌝ }
 {
     match setting {
         Setting::Receiver => block::layout::RECEIVER,

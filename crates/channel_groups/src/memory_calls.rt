@@ -8,7 +8,8 @@ ghost use Rattle.channel_groups.specs.Groups.{memoryAnswer, memoryAfter}
 
 pub fn on_memory(block: &mut [u32], call: MemoryCall) -> Answer
     requires { ⌜ (Whole (now block)) × (memoryCallRefusal call ≡ 0) ⌝ }
-    ensures { λ r. ⌜ (r ≡ memoryAnswer call (now (block .entry))) × (now (block .exit) ≡ memoryAfter call (now (block .entry))) ⌝ }
+    ensures answer { λ r. ⌜ r ≡ memoryAnswer call (now (block .entry)) ⌝ }
+    ensures after { λ r. ⌜ now (block .exit) ≡ memoryAfter call (now (block .entry)) ⌝ }
 {
     match call {
         MemoryCall::WriteMatch(index, mark) => {

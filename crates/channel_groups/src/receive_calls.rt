@@ -9,7 +9,9 @@ ghost use Rattle.channel_groups.specs.Groups.{receiveAnswer, receiveAfte
 
 pub fn on_receive(block: &mut [u32], stamp: u32, call: ReceiveCall) -> Did
     requires { ⌜ (Usable (now block)) × (receiveCallRefusal call (now block) ≡ 0) ⌝ }
-    ensures { λ r. ⌜ (r .answer ≡ receiveAnswer call (now (block .entry))) × (r .signal ≡ receiveSignal call (now (block .entry))) × (now (block .exit) ≡ receiveAfter stamp call (now (block .entry))) ⌝ }
+    ensures answer { λ r. ⌜ r .answer ≡ receiveAnswer call (now (block .entry)) ⌝ }
+    ensures signal { λ r. ⌜ r .signal ≡ receiveSignal call (now (block .entry)) ⌝ }
+    ensures after { λ r. ⌜ now (block .exit) ≡ receiveAfter stamp call (now (block .entry)) ⌝ }
 {
     match call {
         ReceiveCall::Arrive(word) => {

@@ -8,7 +8,8 @@ ghost use Rattle.channel_groups.specs.Groups.{settingAnswer, settingAfte
 
 pub fn on_setting(block: &mut [u32], call: SettingCall) -> Answer
     requires { ⌜ Whole (now block) ⌝ }
-    ensures { λ r. ⌜ (r ≡ settingAnswer call (now (block .entry))) × (now (block .exit) ≡ settingAfter call (now (block .entry))) ⌝ }
+    ensures answer { λ r. ⌜ r ≡ settingAnswer call (now (block .entry)) ⌝ }
+    ensures after { λ r. ⌜ now (block .exit) ≡ settingAfter call (now (block .entry)) ⌝ }
 {
     match call {
         SettingCall::WriteSetting(setting, value) => {

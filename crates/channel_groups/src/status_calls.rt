@@ -8,7 +8,8 @@ ghost use Rattle.channel_groups.specs.Groups.{statusShown};
 
 pub fn on_status(block: &mut [u32], call: StatusCall) -> Answer
     requires { ⌜ Whole (now block) ⌝ }
-    ensures { λ r. ⌜ (r ≡ statusAnswer call (now (block .entry))) × (now (block .exit) ≡ statusAfter call (now (block .entry))) ⌝ }
+    ensures answer { λ r. ⌜ r ≡ statusAnswer call (now (block .entry)) ⌝ }
+    ensures after { λ r. ⌜ now (block .exit) ≡ statusAfter call (now (block .entry)) ⌝ }
 {
     match call {
         StatusCall::ReadStatus => Answer::Done,

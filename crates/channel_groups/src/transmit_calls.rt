@@ -10,7 +10,8 @@ ghost use Rattle.channel_calls.specs.declared.calls.Answer.the-variants.{Done};
 
 // A call that answers nothing and signals nothing.
 fn done() -> Did
-    ensures { λ r. ⌜ (r .answer ≡ Done) × (r .signal ≡ 0) ⌝ }
+    ensures answer { λ r. ⌜ r .answer ≡ Done ⌝ }
+    ensures signal { λ r. ⌜ r .signal ≡ 0 ⌝ }
 {
     Did {
         answer: Answer::Done,
@@ -20,7 +21,9 @@ fn done() -> Did
 
 pub fn on_transmit(block: &mut [u32], call: TransmitCall) -> Did
     requires { ⌜ (Usable (now block)) × (transmitCallRefusal call (now block) ≡ 0) ⌝ }
-    ensures { λ r. ⌜ (r .answer ≡ transmitAnswer call (now (block .entry))) × (r .signal ≡ transmitSignal call (now (block .entry))) × (now (block .exit) ≡ transmitAfter call (now (block .entry))) ⌝ }
+    ensures answer { λ r. ⌜ r .answer ≡ transmitAnswer call (now (block .entry)) ⌝ }
+    ensures signal { λ r. ⌜ r .signal ≡ transmitSignal call (now (block .entry)) ⌝ }
+    ensures after { λ r. ⌜ now (block .exit) ≡ transmitAfter call (now (block .entry)) ⌝ }
 {
     match call {
         TransmitCall::WriteFifo(word) => {

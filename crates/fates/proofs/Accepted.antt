@@ -15,9 +15,11 @@ use Rattle.channel_calls.specs.declared.calls.ReceiveCall.the-variants.{Arrive,
 use Rattle.channel_calls.specs.declared.calls.TransmitCall.the-variants.{WriteFifo, WriteAsync, Trigger, Pause, Stop, Step}
 use Rattle.channel_calls.specs.declared.calls.ChannelCall.{ChannelCall}
 use Rattle.channel_calls.specs.declared.calls.ChannelCall.the-variants.{Settings, Memories, Status, Tests, Reads, Receive, Transmit}
-use Rattle.wide.specs.OnModule.{wideAnswer}
+use Rattle.wide.specs.Effects.{wideEffect}
+use Rattle.wide.specs.OnModule.{effectAnswer, wideAnswer}
 use Rattle.wide.specs.declared.calls.WideCall.{WideCall}
-use Rattle.wide.specs.declared.calls.WideCall.the-variants.{AdvanceStamp, ZeroStamp, ReadStamp, WriteResolution, ReadResolution, WriteThreshold, ReadThreshold}
+use Rattle.wide.specs.declared.calls.WideEffect.{WideEffect}
+use Rattle.wide.specs.declared.calls.WideEffect.the-variants.{Shows, Stores, Advances}
 
 -- the answer on block b, shown by the block c that is left
 pub block-accepted : (k : ChannelCall) (c b : List ℕ) → isRefused (answerShown k c (didAnswer k b)) ≡ false
@@ -52,10 +54,9 @@ block-accepted (Transmit Stop) c b = refl
 block-accepted (Transmit Step) c b = refl
 
 pub wide-accepted : (k : WideCall) (m : List ℕ) → isRefused (wideAnswer k m) ≡ false
-wide-accepted (AdvanceStamp n) m = refl
-wide-accepted ZeroStamp m = refl
-wide-accepted ReadStamp m = refl
-wide-accepted (WriteResolution x) m = refl
-wide-accepted ReadResolution m = refl
-wide-accepted (WriteThreshold x) m = refl
-wide-accepted ReadThreshold m = refl
+wide-accepted k m = go (wideEffect k)
+  where
+    go : (e : WideEffect) → isRefused (effectAnswer e m) ≡ false
+    go (Shows i) = refl
+    go (Stores i v) = refl
+    go (Advances n) = refl

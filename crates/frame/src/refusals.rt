@@ -79,8 +79,8 @@ fn frame_refusal(mem: &[u32]) -> u32
     0
 }
 
-// Whether a number is in the range of a word of the module part.
-fn in_part(at: usize, value: u32) -> bool
+// Whether a number is in the range of a word of the module part: stored numbers and arguments have the same.
+pub fn in_part(at: usize, value: u32) -> bool
     requires { ⌜ at < moduleWords ⌝ }
     ensures { λ r. ⌜ r ≡ within partLeasts partGreatests at value ⌝ }
 {

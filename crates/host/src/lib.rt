@@ -50,9 +50,9 @@ pub extern "C" fn nqabelihu_perform(
     a: u32,
     b: u32,
 ) -> u32
-    ensures { λ r. ⌜ (r ≡ hostNumber (length (now (values .entry))) (decoded op channel a b) (now (mem .entry)))
-        × (now (values .exit) ≡ hostValues (now (values .entry)) (decoded op channel a b) (now (mem .entry)))
-        × (now (mem .exit) ≡ hostAfter (length (now (values .entry))) (decoded op channel a b) (now (mem .entry))) ⌝ }
+    ensures answer { λ r. ⌜ r ≡ hostNumber (length (now (values .entry))) (decoded op channel a b) (now (mem .entry)) ⌝ }
+    ensures values { λ r. ⌜ now (values .exit) ≡ hostValues (now (values .entry)) (decoded op channel a b) (now (mem .entry)) ⌝ }
+    ensures after { λ r. ⌜ now (mem .exit) ≡ hostAfter (length (now (values .entry))) (decoded op channel a b) (now (mem .entry)) ⌝ }
 {
     if values.len() < VALUES {
         return FEW_VALUES;

@@ -27,9 +27,10 @@ use Rattle.frame.specs.Layout.{block}
 use Rattle.frame.specs.Refusals.{wideRefusal}
 use Rattle.power.specs.Power.{powerRefusal}
 use Rattle.wide.specs.Refusals.{callRefusal}
-use Rattle.wide.specs.OnModule.{wideAnswer}
-use Rattle.wide.specs.declared.calls.WideCall.{WideCall}
-use Rattle.wide.specs.declared.calls.WideCall.the-variants.{AdvanceStamp, ZeroStamp, ReadStamp, WriteResolution, ReadResolution, WriteThreshold, ReadThreshold}
+use Rattle.wide.specs.Effects.{wideEffect, valuesOf}
+use Rattle.wide.specs.OnModule.{effectAnswer, wideAnswer}
+use Rattle.wide.specs.declared.calls.WideEffect.{WideEffect}
+use Rattle.wide.specs.declared.calls.WideEffect.the-variants.{Shows, Stores, Advances}
 use Rattle.module.specs.OnChannel.{onRefusal, givenOf}
 use Rattle.module.specs.Perform.{answer, wideValues, values, numbers}
 use Rattle.module.specs.declared.calls.Call.{Call}
@@ -49,14 +50,10 @@ unless n r a h = go (eqb r 0)
 
 -- ---- the accepted calls
 
-wide-listed : (k : WideCall) (m : List ℕ) → Listed (wideValues k) (wideAnswer k m)
-wide-listed (AdvanceStamp n) m = refl
-wide-listed ZeroStamp m = refl
-wide-listed ReadStamp m = refl
-wide-listed (WriteResolution x) m = refl
-wide-listed ReadResolution m = refl
-wide-listed (WriteThreshold x) m = refl
-wide-listed ReadThreshold m = refl
+wide-listed : (e : WideEffect) (m : List ℕ) → Listed (valuesOf e) (effectAnswer e m)
+wide-listed (Shows i) m = refl
+wide-listed (Stores i v) m = refl
+wide-listed (Advances n) m = refl
 
 -- every output of a step has four numbers
 output-length : (o : Output) → length (outputValues o) ≡ 4
@@ -106,6 +103,6 @@ channel-listed g (Transmit Step) b = ap suc (output-length (stepOutput b))
 pub listed : (c : Call) (m : List ℕ) → length (numbers c (answer c m)) ≡ suc (values c)
 listed (PowerUp k) m = unless 0 (powerRefusal k (length m)) Done refl
 listed Reset m = unless 0 (wideRefusal m) Done refl
-listed (Wide k) m = unless (wideValues k) (callRefusal k m) (wideAnswer k m) (wide-listed k m)
+listed (Wide k) m = unless (wideValues k) (callRefusal k m) (wideAnswer k m) (wide-listed (wideEffect k) m)
 listed (On ch k) m =
     unless (channelValues k) (onRefusal ch k m) (blockAnswer (givenOf ch k m) k (block m ch)) (channel-listed (givenOf ch k m) k (block m ch))

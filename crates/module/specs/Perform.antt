@@ -9,9 +9,9 @@ use Rattle.channel_calls.specs.declared.calls.Answer.the-variants.{Done}
 use Rattle.frame.specs.Refusals.{wideRefusal}
 use Rattle.power.specs.Power.{powerRefusal, powerAfter}
 use Rattle.wide.specs.Refusals.{callRefusal}
+use Rattle.wide.specs.Effects.{wideEffect, valuesOf}
 use Rattle.wide.specs.OnModule.{wideAnswer, wideAfter}
 use Rattle.wide.specs.declared.calls.WideCall.{WideCall}
-use Rattle.wide.specs.declared.calls.WideCall.the-variants.{AdvanceStamp, ZeroStamp, ReadStamp, WriteResolution, ReadResolution, WriteThreshold, ReadThreshold}
 use Rattle.reset.specs.Reset.{resetAfter}
 use Rattle.module.specs.OnChannel.{onAnswer, onAfter}
 use Rattle.module.specs.declared.calls.Call.{Call}
@@ -33,13 +33,7 @@ after (On ch k) m = onAfter ch k m
 
 -- how many values a call answers beside the number
 abbrev pub wideValues : WideCall → ℕ
-wideValues (AdvanceStamp n) = 0
-wideValues ZeroStamp = 0
-wideValues ReadStamp = 1
-wideValues (WriteResolution x) = 0
-wideValues ReadResolution = 1
-wideValues (WriteThreshold x) = 0
-wideValues ReadThreshold = 1
+wideValues k = valuesOf (wideEffect k)
 
 abbrev pub values : Call → ℕ
 values (PowerUp k) = 0

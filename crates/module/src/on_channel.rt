@@ -52,7 +52,8 @@ fn counter_after(mem: &[u32], channel: u32, call: ChannelCall) -> u32
 // An accepted call on a channel.
 fn accept(mem: &mut [u32], channel: u32, call: ChannelCall) -> Answer
     requires { ⌜ (Room (now mem) channel) × (Usable (block (now mem) channel)) × (channelRefusal call (block (now mem) channel) ≡ 0) ⌝ }
-    ensures { λ r. ⌜ (r ≡ blockAnswer (givenOf channel call (now (mem .entry))) call (block (now (mem .entry)) channel)) × (now (mem .exit) ≡ acceptedAfter channel call (now (mem .entry))) ⌝ }
+    ensures answer { λ r. ⌜ r ≡ blockAnswer (givenOf channel call (now (mem .entry))) call (block (now (mem .entry)) channel) ⌝ }
+    ensures after { λ r. ⌜ now (mem .exit) ≡ acceptedAfter channel call (now (mem .entry)) ⌝ }
 {
     let at = COUNTERS + ((channel - 1) as usize);
     let threshold = mem[THRESHOLD];
@@ -77,7 +78,8 @@ fn accept(mem: &mut [u32], channel: u32, call: ChannelCall) -> Answer
 
 // A call on a channel: refused, or done.
 pub fn on_channel(mem: &mut [u32], channel: u32, call: ChannelCall) -> Answer
-    ensures { λ r. ⌜ (r ≡ onAnswer channel call (now (mem .entry))) × (now (mem .exit) ≡ onAfter channel call (now (mem .entry))) ⌝ }
+    ensures answer { λ r. ⌜ r ≡ onAnswer channel call (now (mem .entry)) ⌝ }
+    ensures after { λ r. ⌜ now (mem .exit) ≡ onAfter channel call (now (mem .entry)) ⌝ }
 {
     let address = frame::refusals::address_refusal(mem, channel);
     if address != 0 {

@@ -19,7 +19,8 @@ fn done_unless(refusal: u32) -> Answer
 
 // Performs a call on lent memory: any memory and any numbers.
 pub fn perform(mem: &mut [u32], call: Call) -> Answer
-    ensures { λ r. ⌜ (r ≡ answer call (now (mem .entry))) × (now (mem .exit) ≡ after call (now (mem .entry))) ⌝ }
+    ensures answer { λ r. ⌜ r ≡ answer call (now (mem .entry)) ⌝ }
+    ensures after { λ r. ⌜ now (mem .exit) ≡ after call (now (mem .entry)) ⌝ }
 {
     match call {
         Call::PowerUp(count) => done_unless(power::power_up(mem, count)),

@@ -15,7 +15,7 @@ use Rattle.block.specs.Refusals.{leaveUnless}
 use Rattle.block.proofs.Refusals.{neither}
 use Rattle.channel_calls.specs.declared.calls.ChannelCall.{ChannelCall}
 use Rattle.channel_laws.proofs.Calls.{left}
-use Rattle.frame.specs.Layout.{count, stamp, resolution, threshold, layout, moduleWords, need, base, withBlock, Framed}
+use Rattle.frame.specs.Layout.{count, stamp, threshold, layout, moduleWords, need, base, withBlock, Framed}
 use Rattle.frame.specs.Each.{eachTo}
 use Rattle.frame.specs.Refusals.{wideRefusal}
 use Rattle.frame.proofs.Parts.{splice}
@@ -25,12 +25,15 @@ use Rattle.frame.proofs.Each.{Own, each-length}
 use Rattle.power.specs.Power.{powerRefusal, partWith, factoryPart, factoryBlocks, powered}
 use Rattle.power.proofs.Filling.{repeated-length, factory-length}
 use Rattle.power.proofs.Laws.{power-framed, powered-length}
+use Rattle.wide.specs.Effects.{wideEffect, placeOf, PartWord}
 use Rattle.wide.specs.Refusals.{callRefusal}
 use Rattle.wide.specs.Rule.{ruledAll}
-use Rattle.wide.specs.OnModule.{wideAfter}
+use Rattle.wide.specs.OnModule.{effectAfter, wideAfter}
 use Rattle.wide.specs.declared.calls.WideCall.{WideCall}
-use Rattle.wide.specs.declared.calls.WideCall.the-variants.{AdvanceStamp, ZeroStamp, ReadStamp, WriteResolution, ReadResolution, WriteThreshold, ReadThreshold}
+use Rattle.wide.specs.declared.calls.WideEffect.{WideEffect}
+use Rattle.wide.specs.declared.calls.WideEffect.the-variants.{Shows, Stores, Advances}
 use Rattle.wide.proofs.Laws.{ruled-own}
+use Rattle.wide.proofs.Places.{part-word}
 use Rattle.wide.proofs.Stored.{count-kept, stored-framed}
 use Rattle.reset.specs.Reset.{resetTo, moduleReset}
 use Rattle.reset.proofs.Laws.{reset-own, reset-length}
@@ -140,19 +143,15 @@ write-stays m g i v l h =
 
 wide-stays : (k : WideCall) (m : List ℕ) → callRefusal k m ≡ 0 → Untouched (need (word m count)) m (wideAfter k m)
 unfolding callRefusal
-wide-stays k m e = go k
+wide-stays k m e = go (wideEffect k) (part-word k)
   where
     g : Framed (length m) (word m count)
     g = wide-framed m (neither (wideRefusal m) _ e .0)
 
-    go : (k : WideCall) → Untouched (need (word m count)) m (wideAfter k m)
-    go (AdvanceStamp n) = write-stays m g stamp _ (omega arith) (omega arith)
-    go ZeroStamp = write-stays m g stamp 0 (omega arith) (omega arith)
-    go ReadStamp = as-was _ m
-    go (WriteResolution x) = write-stays m g resolution x (omega arith) (omega arith)
-    go ReadResolution = as-was _ m
-    go (WriteThreshold x) = write-stays m g threshold x (omega arith) (omega arith)
-    go ReadThreshold = as-was _ m
+    go : (e : WideEffect) → PartWord (placeOf e) → Untouched (need (word m count)) m (effectAfter e m)
+    go (Shows i) p = as-was _ m
+    go (Stores i v) p = write-stays m g i v (p .low) (p .high)
+    go (Advances n) p = write-stays m g stamp _ (p .low) (p .high)
 
 on-stays : (ch : ℕ) (k : ChannelCall) (m : List ℕ) → onRefusal ch k m ≡ 0 → Untouched (need (word m count)) m (acceptedAfter ch k m)
 on-stays ch k m e =

@@ -20,7 +20,7 @@ use Rattle.channel_calls.specs.declared.calls.Answer.the-variants.{Done, Refuse
 use Rattle.channel_calls.specs.declared.calls.ChannelCall.{ChannelCall}
 use Rattle.settings.specs.Kept.{keptOf, keptFirst}
 use Rattle.channel_laws.proofs.Resets.{first-holds}
-use Rattle.frame.specs.Layout.{count, stamp, resolution, threshold, layout, moduleWords, most, need, base, block, withBlock, Framed}
+use Rattle.frame.specs.Layout.{count, stamp, threshold, layout, moduleWords, most, need, base, block, withBlock, Framed}
 use Rattle.frame.specs.Each.{eachTo}
 use Rattle.frame.specs.Refusals.{frameOf, frameRefusal, partLeasts, partGreatests, partRefusal, channelOf, wideRefusal}
 use Rattle.frame.proofs.Parts.{part-front, splice-front}
@@ -28,12 +28,15 @@ use Rattle.frame.proofs.Blocks.{Within, channel-room}
 use Rattle.frame.proofs.Each.{Own, each-length}
 use Rattle.power.specs.Power.{powerRefusal, partWith, powered}
 use Rattle.power.proofs.Laws.{power-framed, powered-length, powered-word, powered-block}
+use Rattle.wide.specs.Effects.{wideEffect, placeOf, PartWord}
 use Rattle.wide.specs.Refusals.{callRefusal}
 use Rattle.wide.specs.Rule.{ruledAll}
-use Rattle.wide.specs.OnModule.{wideAnswer, wideAfter}
+use Rattle.wide.specs.OnModule.{effectAnswer, effectAfter, wideAnswer, wideAfter}
 use Rattle.wide.specs.declared.calls.WideCall.{WideCall}
-use Rattle.wide.specs.declared.calls.WideCall.the-variants.{AdvanceStamp, ZeroStamp, ReadStamp, WriteResolution, ReadResolution, WriteThreshold, ReadThreshold}
+use Rattle.wide.specs.declared.calls.WideEffect.{WideEffect}
+use Rattle.wide.specs.declared.calls.WideEffect.the-variants.{Shows, Stores, Advances}
 use Rattle.wide.proofs.Laws.{ruled-own}
+use Rattle.wide.proofs.Places.{part-word}
 use Rattle.wide.proofs.Stored.{count-kept, stored-framed}
 use Rattle.reset.specs.Reset.{resetTo, moduleReset}
 use Rattle.reset.proofs.Laws.{reset-own}
@@ -185,24 +188,15 @@ module _ {l r : List ℕ} (f : Front l r) where
       each-front (ruled-own (word l threshold)) (set l i v) r (stored-framed l i v p (f .sane .frame)) (word l count) (rw (count-kept l i v p) (omega arith))
       ∙ rw (← e, set-append-left l r i v (omega (arith, f .sane .frame)), f .words threshold (omega arith), f .words count (omega arith)) refl
 
-  wide-answers : (k : WideCall) → wideAnswer k l ≡ wideAnswer k (l ++ r)
-  wide-answers (AdvanceStamp n) = refl
-  wide-answers ZeroStamp = refl
-  wide-answers ReadStamp = ap Value (f .words stamp (omega arith))
-  wide-answers (WriteResolution x) = refl
-  wide-answers ReadResolution = ap Value (f .words resolution (omega arith))
-  wide-answers (WriteThreshold x) = refl
-  wide-answers ReadThreshold = ap Value (f .words threshold (omega arith))
+  wide-answers : (e : WideEffect) → PartWord (placeOf e) → effectAnswer e l ≡ effectAnswer e (l ++ r)
+  wide-answers (Shows i) p = ap Value (f .words i (p .high))
+  wide-answers (Stores i v) p = refl
+  wide-answers (Advances n) p = refl
 
-  wide-leaves : (k : WideCall) → wideAfter k l ++ r ≡ wideAfter k (l ++ r)
-  wide-leaves (AdvanceStamp n) =
-      write-front stamp _ _ (omega arith) (omega arith) (ap (λ (x : ℕ). counted x n) (f .words stamp (omega arith)))
-  wide-leaves ZeroStamp = write-front stamp 0 0 (omega arith) (omega arith) refl
-  wide-leaves ReadStamp = refl
-  wide-leaves (WriteResolution x) = write-front resolution x x (omega arith) (omega arith) refl
-  wide-leaves ReadResolution = refl
-  wide-leaves (WriteThreshold x) = write-front threshold x x (omega arith) (omega arith) refl
-  wide-leaves ReadThreshold = refl
+  wide-leaves : (e : WideEffect) → PartWord (placeOf e) → effectAfter e l ++ r ≡ effectAfter e (l ++ r)
+  wide-leaves (Shows i) p = refl
+  wide-leaves (Stores i v) p = write-front i v v (p .low) (p .high) refl
+  wide-leaves (Advances n) p = write-front stamp _ _ (p .low) (p .high) (ap (λ (x : ℕ). counted x n) (f .words stamp (p .high)))
 
   wide-same : (k : WideCall) → callRefusal k l ≡ callRefusal k (l ++ r)
   unfolding callRefusal
@@ -211,8 +205,8 @@ module _ {l r : List ℕ} (f : Front l r) where
   pub front-wide : (k : WideCall) → Alike (Wide k) l r
   front-wide k =
       record {
-        answers = answer-by _ _ (wide-same k) (λ e. wide-answers k);
-        leaves = leave-by l r _ _ (wide-same k) (λ e. wide-leaves k);
+        answers = answer-by _ _ (wide-same k) (λ e. wide-answers (wideEffect k) (part-word k));
+        leaves = leave-by l r _ _ (wide-same k) (λ e. wide-leaves (wideEffect k) (part-word k));
       }
 
   -- a module reset

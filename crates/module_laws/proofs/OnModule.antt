@@ -3,31 +3,33 @@
 use Prim.Native.Nat.{ℕ, _≤_, _<_, zero-le}
 use mathlib.Core.Path.{_≡_, refl, ap, _∙_}
 use mathlib.Core.Logic.{_≢_}
+use mathlib.Core.Bool.{Bool, true, false, cond}
 use mathlib.Core.List.{List}
 use native.Mathlib.Omega.{arith}
-use borrow.Author.Tests.{ltb-false}
-use lib.Dec.{ltb}
-use lib.ListN.{getD, set}
+use lib.ListN.{set}
 use lib.Seq.{getD-set-other}
 use Rattle.fifos.specs.Counts.{counted}
 use Rattle.block.specs.Layout.{word, latch}
-use Rattle.block.specs.Ranges.{Usable}
+use Rattle.block.specs.Ranges.{within, Usable}
 use Rattle.block.proofs.Sound.{is-within}
 use Rattle.status.proofs.Keeps.{rule-keeps}
 use Rattle.settings.specs.Kept.{keptOf}
 use Rattle.channel_laws.proofs.Holds.{store-kept}
-use Rattle.frame.specs.Layout.{count, stamp, resolution, threshold, moduleWords, block}
-use Rattle.frame.specs.Refusals.{mostResolution, leastThreshold, mostThreshold, partLeasts, partGreatests, wideRefusal}
-use Rattle.block.proofs.Refusals.{past, neither}
+use Rattle.frame.specs.Layout.{count, stamp, threshold, moduleWords, block}
+use Rattle.frame.specs.Refusals.{partLeasts, partGreatests, wideRefusal}
+use Rattle.block.proofs.Refusals.{neither}
 use Rattle.frame.proofs.Blocks.{block-set}
 use Rattle.frame.proofs.Each.{each-word, each-block}
-use Rattle.wide.specs.Refusals.{rangeRefusal, wideCallRefusal, callRefusal}
+use Rattle.wide.specs.Effects.{wideEffect, placeOf, PartWord}
+use Rattle.wide.specs.Refusals.{argumentRefusal, effectRefusal, callRefusal}
 use Rattle.wide.specs.Rule.{ruledChannel, ruledAll}
-use Rattle.wide.specs.OnModule.{wideStored, wideAfter}
+use Rattle.wide.specs.OnModule.{effectStored, effectAfter, wideStored, wideAfter}
+use Rattle.wide.proofs.Places.{part-word}
 use Rattle.wide.proofs.Laws.{ruled-own}
 use Rattle.wide.proofs.Stored.{count-kept}
 use Rattle.wide.specs.declared.calls.WideCall.{WideCall}
-use Rattle.wide.specs.declared.calls.WideCall.the-variants.{AdvanceStamp, ZeroStamp, ReadStamp, WriteResolution, ReadResolution, WriteThreshold, ReadThreshold}
+use Rattle.wide.specs.declared.calls.WideEffect.{WideEffect}
+use Rattle.wide.specs.declared.calls.WideEffect.the-variants.{Shows, Stores, Advances}
 use Rattle.module_laws.specs.Sane.{Sane}
 use Rattle.module_laws.proofs.Stores.{inPart, store-sane, each-sane}
 
@@ -86,29 +88,25 @@ writes {m} s i v l h r =
     same j q = each-word (ruled-own (word m threshold)) (set m i v) (t .frame) (word m count) j c q
 
 -- an argument that is not refused is in its range
-argument : (i least greatest v : ℕ) → least ≡ getD partLeasts i 0 → greatest ≡ getD partGreatests i 0 → rangeRefusal least greatest v ≡ 0 → inPart i v
-unfolding rangeRefusal
-argument i least greatest v p q e =
-    let a = past (ltb v least) 3 _ e in
-    let b = past (ltb greatest v) 3 _ (a .1) in
-    is-within partLeasts partGreatests i v (rw (← p) (ltb-false v least (a .0))) (rw (← q) (ltb-false greatest v (b .0)))
+argument : (i v : ℕ) → argumentRefusal i v ≡ 0 → inPart i v
+unfolding argumentRefusal
+argument i v e = go (within partLeasts partGreatests i v) e
+  where
+    go : (t : Bool) → _≡_ {A = ℕ} (cond t 0 4) 0 → t ≡ true
+    go true z = refl
+    go false z = absurd (omega (arith, z))
 
-left : (k : WideCall) {m : List ℕ} → Sane m → wideCallRefusal k ≡ 0 → Left m (wideStored k m) (wideAfter k m)
+left : (e : WideEffect) → PartWord (placeOf e) → {m : List ℕ} → Sane m → effectRefusal e ≡ 0 → Left m (effectStored e m) (effectAfter e m)
 unfolding partLeasts partGreatests
-left (AdvanceStamp n) {m} s e =
-    writes s stamp _ (omega arith) (omega arith)
-    (is-within partLeasts partGreatests stamp (counted (word m stamp) n) zero-le (omega arith))
-left ZeroStamp s e = writes s stamp 0 (omega arith) (omega arith) refl
-left ReadStamp s e = reads s
-left (WriteResolution v) s e = writes s resolution v (omega arith) (omega arith) (argument resolution 0 mostResolution v refl refl e)
-left ReadResolution s e = reads s
-left (WriteThreshold v) s e = writes s threshold v (omega arith) (omega arith) (argument threshold leastThreshold mostThreshold v refl refl e)
-left ReadThreshold s e = reads s
+left (Shows i) p s z = reads s
+left (Stores i v) p s z = writes s i v (p .low) (p .high) (argument i v z)
+left (Advances n) p {m} s z =
+    writes s stamp _ (p .low) (p .high) (is-within partLeasts partGreatests stamp (counted (word m stamp) n) zero-le (omega arith))
 
 module _ {m : List ℕ} (s : Sane m) (k : WideCall) (e : callRefusal k m ≡ 0) where
   accepted : Left m (wideStored k m) (wideAfter k m)
   unfolding callRefusal
-  accepted = left k s (neither (wideRefusal m) _ e .1)
+  accepted = left (wideEffect k) (part-word k) s (neither (wideRefusal m) _ e .1)
 
   pub wide-sane : Sane (wideAfter k m)
   wide-sane = accepted .sane

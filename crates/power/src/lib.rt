@@ -91,7 +91,8 @@ fn fill_channels(mem: &mut [u32], count: u32)
 
 // Powers a module of `count` channels up; answers the refusal's number, or 0 for done.
 pub fn power_up(mem: &mut [u32], count: u32) -> u32
-    ensures { λ r. ⌜ (r ≡ powerRefusal count (length (now (mem .entry)))) × (now (mem .exit) ≡ powerAfter count (now (mem .entry))) ⌝ }
+    ensures refusal { λ r. ⌜ r ≡ powerRefusal count (length (now (mem .entry))) ⌝ }
+    ensures after { λ r. ⌜ now (mem .exit) ≡ powerAfter count (now (mem .entry)) ⌝ }
 {
     if count < 1 {
         return 4;

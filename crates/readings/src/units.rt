@@ -47,7 +47,8 @@ pub fn size(count: i64) -> u64
 
 // The first digit behind the point of a part below one.
 pub fn next(rest: u32) -> Digit
-    ensures { λ r. ⌜ (r .digit ≡ firstDigit rest) × (r .rest ≡ nextRest rest) ⌝ }
+    ensures digit { λ r. ⌜ r .digit ≡ firstDigit rest ⌝ }
+    ensures rest { λ r. ⌜ r .rest ≡ nextRest rest ⌝ }
 {
     let tenfold = rest % THS * 10;
     Digit {

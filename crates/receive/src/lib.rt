@@ -153,9 +153,9 @@ fn signal_of(block: &[u32], decision: Arrival, word: u32) -> u32
 // A word arrives.
 pub fn arrive(block: &mut [u32], stamp: u32, word: u32) -> Arrived
     requires { ⌜ Usable (now block) ⌝ }
-    ensures { λ r. ⌜ (r .arrival ≡ arrival word (now (block .entry)))
-        × (r .signal ≡ arrivalSignal word (now (block .entry)))
-        × (now (block .exit) ≡ arrived stamp word (now (block .entry))) ⌝ }
+    ensures arrival { λ r. ⌜ r .arrival ≡ arrival word (now (block .entry)) ⌝ }
+    ensures signal { λ r. ⌜ r .signal ≡ arrivalSignal word (now (block .entry)) ⌝ }
+    ensures after { λ r. ⌜ now (block .exit) ≡ arrived stamp word (now (block .entry)) ⌝ }
 {
     let decision = decide(block, word);
     let signal = signal_of(block, decision, word);

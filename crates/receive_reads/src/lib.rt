@@ -27,8 +27,8 @@ fn shown(entry: Entry) -> Entry
 // Takes the oldest entry out of the receive FIFO.
 pub fn read_fifo(block: &mut [u32]) -> Entry
     requires { ⌜ (Usable (now block)) × (0 < word (now block) receiveLevel) ⌝ }
-    ensures { λ r. ⌜ (fields r ≡ readAnswer (now (block .entry)))
-        × (now (block .exit) ≡ readAfter (now (block .entry))) ⌝ }
+    ensures entry { λ r. ⌜ fields r ≡ readAnswer (now (block .entry)) ⌝ }
+    ensures after { λ r. ⌜ now (block .exit) ≡ readAfter (now (block .entry)) ⌝ }
 {
     let position = block[RECEIVE_POSITION];
     let level = block[RECEIVE_LEVEL];
@@ -43,8 +43,8 @@ pub fn read_fifo(block: &mut [u32]) -> Entry
 // Reads a mailbox, which is then no longer new.
 pub fn read_mailbox(block: &mut [u32], index: u32) -> Entry
     requires { ⌜ (Usable (now block)) × (index < indexes) ⌝ }
-    ensures { λ r. ⌜ (fields r ≡ mailboxAnswer index (now (block .entry)))
-        × (now (block .exit) ≡ mailboxAfter index (now (block .entry))) ⌝ }
+    ensures entry { λ r. ⌜ fields r ≡ mailboxAnswer index (now (block .entry)) ⌝ }
+    ensures after { λ r. ⌜ now (block .exit) ≡ mailboxAfter index (now (block .entry)) ⌝ }
 {
     let at = MAILBOXES + 3 * (index as usize);
     let entry = Entry {

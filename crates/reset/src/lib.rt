@@ -35,7 +35,8 @@ fn reset_channels(mem: &mut [u32])
 
 // Resets a module; answers the refusal's number, or 0 for done.
 pub fn reset(mem: &mut [u32]) -> u32
-    ensures { λ r. ⌜ (r ≡ wideRefusal (now (mem .entry))) × (now (mem .exit) ≡ resetAfter (now (mem .entry))) ⌝ }
+    ensures refusal { λ r. ⌜ r ≡ wideRefusal (now (mem .entry)) ⌝ }
+    ensures after { λ r. ⌜ now (mem .exit) ≡ resetAfter (now (mem .entry)) ⌝ }
 {
     let refusal = frame::channels::wide_refusal(mem);
     if refusal != 0 {

@@ -9,7 +9,7 @@ use Rattle.block.specs.Layout.{latch}
 use Rattle.block.specs.Ranges.{leasts, greatests, Usable}
 use Rattle.block.proofs.Sound.{in-range}
 use Rattle.settings.proofs.Keeps.{usable-store}
-use Rattle.status.specs.Status.{bit, seven, latchBit, latched, ruled, keptBit, kept, latchCleared}
+use Rattle.status.specs.Status.{bit, seven, latchBit, latched, ruled, chosenBit, chosen, latchCleared}
 
 -- ---- masks
 
@@ -28,14 +28,14 @@ latched-le old level before holds = seven-le (λ p. latchBit p old level before 
     go p false false false true = omega arith
     go p false false false false = omega arith
 
-pub kept-le : (old mask : ℕ) → kept old mask ≤ 127
-unfolding kept keptBit
-kept-le old mask = seven-le (λ p. keptBit p old mask) (λ p. go p (eqb (bit p mask) 1) (eqb (bit p old) 1))
+pub chosen-le : (old mask x : ℕ) → chosen old mask x ≤ 127
+unfolding chosen chosenBit
+chosen-le old mask x = seven-le (λ p. chosenBit p old mask x) (λ p. go p (eqb (bit p old) 1) (eqb (bit p mask) x))
   where
-    go : (p : ℕ) (s t : Bool) → cond s 0 (cond t p 0) ≤ p
-    go p true t = omega arith
-    go p false true = omega arith
-    go p false false = omega arith
+    go : (p : ℕ) (s t : Bool) → cond s (cond t p 0) 0 ≤ p
+    go p true true = omega arith
+    go p true false = omega arith
+    go p false t = omega arith
 
 -- ---- each change of a block
 
@@ -46,4 +46,4 @@ module _ {b : List ℕ} (u : Usable b) where
 
   pub clear-keeps : (mask : ℕ) → Usable (latchCleared mask b)
   unfolding leasts greatests
-  clear-keeps mask = usable-store u latch _ (omega arith) (in-range latch _ zero-le (kept-le _ mask))
+  clear-keeps mask = usable-store u latch _ (omega arith) (in-range latch _ zero-le (chosen-le _ mask 0))

@@ -59,22 +59,17 @@ latched old level before holds = seven (λ p. latchBit p old level before holds)
 abbrev pub ruled : ℕ → ℕ → List ℕ → List ℕ
 ruled before holds b = set b latch (latched (word b latch) (word b levelMask) before holds)
 
+-- the bits of a latch whose bit of a mask is x: 0 for those that the mask does not name, 1 for those that it names
+unfoldable pub chosenBit : ℕ → ℕ → ℕ → ℕ → ℕ
+chosenBit p old mask x = cond (eqb (bit p old) 1) (cond (eqb (bit p mask) x) p 0) 0
+
+unfoldable pub chosen : ℕ → ℕ → ℕ → ℕ
+chosen old mask x = seven (λ p. chosenBit p old mask x)
+
 -- "Writing ones clears those latch bits first"
-unfoldable pub keptBit : ℕ → ℕ → ℕ → ℕ
-keptBit p old mask = cond (eqb (bit p mask) 1) 0 (cond (eqb (bit p old) 1) p 0)
-
-unfoldable pub kept : ℕ → ℕ → ℕ
-kept old mask = seven (λ p. keptBit p old mask)
-
 abbrev pub latchCleared : ℕ → List ℕ → List ℕ
-latchCleared mask b = set b latch (kept (word b latch) mask)
+latchCleared mask b = set b latch (chosen (word b latch) mask 0)
 
 -- "Interrupt is pending if a latched bit is enabled": 1, else 0
-unfoldable pub commonBit : ℕ → ℕ → ℕ → ℕ
-commonBit p old enabled = cond (eqb (bit p old) 1) (cond (eqb (bit p enabled) 1) p 0) 0
-
-unfoldable pub common : ℕ → ℕ → ℕ
-common old enabled = seven (λ p. commonBit p old enabled)
-
 unfoldable pub pending : List ℕ → ℕ
-pending b = cond (eqb (common (word b latch) (word b enable)) 0) 0 1
+pending b = cond (eqb (chosen (word b latch) (word b enable) 1) 0) 0 1

@@ -10,7 +10,7 @@ use block::layout::TRANSMIT_LEVEL;
 ghost use mathlib.Core.Path.{_≡_};
 ghost use Prim.Native.Nat.{_≤_, _<_};
 ghost use Rattle.block.specs.Layout.{Whole};
-ghost use Rattle.status.specs.Status.{flag, conditions, faulty, holding, latchBit, latched, ruled, keptBit, kept, latchCleared, commonBit, common, pending};
+ghost use Rattle.status.specs.Status.{flag, conditions, faulty, holding, latchBit, latched, ruled, chosenBit, chosen, latchCleared, pending};
 
 // The conditions that a call may signal, and the fault.
 pub const PARITY_ERROR: u32 = 16;
@@ -21,7 +21,8 @@ pub const FAULT: u32 = 64;
 
 // A weight where a test holds, else 0.
 fn flag(test: bool, weight: u32) -> u32
-    ensures { λ r. ⌜ (r ≡ flag test weight) × (r ≤ weight) ⌝ }
+    ensures value { λ r. ⌜ r ≡ flag test weight ⌝ }
+    ensures bound { λ r. ⌜ r ≤ weight ⌝ }
 {
     if test {
         return weight;
@@ -32,7 +33,8 @@ fn flag(test: bool, weight: u32) -> u32
 // The conditions 0 to 3 that hold of a block.
 pub fn conditions(block: &[u32]) -> u32
     requires { ⌜ Whole (now block) ⌝ }
-    ensures { λ r. ⌜ (r ≡ conditions (now (block .entry))) × (r < 16) ⌝ }
+    ensures value { λ r. ⌜ r ≡ conditions (now (block .entry)) ⌝ }
+    ensures bound { λ r. ⌜ r < 16 ⌝ }
 {
     let level = block[RECEIVE_LEVEL];
     let sending = block[TRANSMIT_LEVEL];
@@ -44,7 +46,8 @@ pub fn conditions(block: &[u32]) -> u32
 
 // Condition 6: whether a fault counter is above the threshold, 1 or 0.
 pub fn fault(counter: u32, threshold: u32) -> u32
-    ensures { λ r. ⌜ (r ≡ faulty counter threshold) × (r ≤ 1) ⌝ }
+    ensures value { λ r. ⌜ r ≡ faulty counter threshold ⌝ }
+    ensures bound { λ r. ⌜ r ≤ 1 ⌝ }
 {
     flag(threshold < counter, 1)
 }
@@ -52,7 +55,8 @@ pub fn fault(counter: u32, threshold: u32) -> u32
 // The conditions that hold of a block, with the fault: 0 or 1.
 pub fn holding(fault: u32, block: &[u32]) -> u32
     requires { ⌜ (Whole (now block)) × (fault ≤ 1) ⌝ }
-    ensures { λ r. ⌜ (r ≡ holding fault (now (block .entry))) × (r < 128) ⌝ }
+    ensures value { λ r. ⌜ r ≡ holding fault (now (block .entry)) ⌝ }
+    ensures bound { λ r. ⌜ r < 128 ⌝ }
 {
     conditions(block) + FAULT * fault
 }
@@ -60,7 +64,8 @@ pub fn holding(fault: u32, block: &[u32]) -> u32
 // The latch bit of one condition after a call: its weight or 0.
 fn latch_bit(weight: u32, latch: u32, level: u32, before: u32, holds: u32) -> u32
     requires { ⌜ 0 < weight ⌝ }
-    ensures { λ r. ⌜ (r ≡ latchBit weight latch level before holds) × (r ≤ weight) ⌝ }
+    ensures value { λ r. ⌜ r ≡ latchBit weight latch level before holds ⌝ }
+    ensures bound { λ r. ⌜ r ≤ weight ⌝ }
 {
     if latch / weight % 2 == 1 {
         return weight;
@@ -98,48 +103,14 @@ pub fn rule(block: &mut [u32], before: u32, holds: u32)
     block[LATCH] = latched(block[LATCH], block[LEVEL_MASK], before, holds);
 }
 
-// A latch bit that a write of ones leaves.
-fn kept_bit(weight: u32, latch: u32, mask: u32) -> u32
+// A latch bit whose bit of a mask is `choice`: its weight or 0.
+fn chosen_bit(weight: u32, latch: u32, mask: u32, choice: u32) -> u32
     requires { ⌜ 0 < weight ⌝ }
-    ensures { λ r. ⌜ (r ≡ keptBit weight latch mask) × (r ≤ weight) ⌝ }
-{
-    if mask / weight % 2 == 1 {
-        return 0;
-    }
-    if latch / weight % 2 == 1 {
-        return weight;
-    }
-    0
-}
-
-// The latch bits that a write of ones leaves.
-fn kept(latch: u32, mask: u32) -> u32
-    ensures { λ r. ⌜ r ≡ kept latch mask ⌝ }
-{
-    kept_bit(1, latch, mask)
-        + kept_bit(2, latch, mask)
-        + kept_bit(4, latch, mask)
-        + kept_bit(8, latch, mask)
-        + kept_bit(16, latch, mask)
-        + kept_bit(32, latch, mask)
-        + kept_bit(64, latch, mask)
-}
-
-// Clears the latch bits that are ones in a mask.
-pub fn clear_latch(block: &mut [u32], mask: u32)
-    requires { ⌜ Whole (now block) ⌝ }
-    ensures { λ r. ⌜ now (block .exit) ≡ latchCleared mask (now (block .entry)) ⌝ }
-{
-    block[LATCH] = kept(block[LATCH], mask);
-}
-
-// A bit that is latched and enabled.
-fn common_bit(weight: u32, latch: u32, enable: u32) -> u32
-    requires { ⌜ 0 < weight ⌝ }
-    ensures { λ r. ⌜ (r ≡ commonBit weight latch enable) × (r ≤ weight) ⌝ }
+    ensures value { λ r. ⌜ r ≡ chosenBit weight latch mask choice ⌝ }
+    ensures bound { λ r. ⌜ r ≤ weight ⌝ }
 {
     if latch / weight % 2 == 1 {
-        if enable / weight % 2 == 1 {
+        if mask / weight % 2 == choice {
             return weight;
         }
         return 0;
@@ -147,25 +118,33 @@ fn common_bit(weight: u32, latch: u32, enable: u32) -> u32
     0
 }
 
-// The bits that are latched and enabled.
-fn common(latch: u32, enable: u32) -> u32
-    ensures { λ r. ⌜ r ≡ common latch enable ⌝ }
+// The latch bits whose bit of a mask is `choice`.
+fn chosen(latch: u32, mask: u32, choice: u32) -> u32
+    ensures { λ r. ⌜ r ≡ chosen latch mask choice ⌝ }
 {
-    common_bit(1, latch, enable)
-        + common_bit(2, latch, enable)
-        + common_bit(4, latch, enable)
-        + common_bit(8, latch, enable)
-        + common_bit(16, latch, enable)
-        + common_bit(32, latch, enable)
-        + common_bit(64, latch, enable)
+    chosen_bit(1, latch, mask, choice)
+        + chosen_bit(2, latch, mask, choice)
+        + chosen_bit(4, latch, mask, choice)
+        + chosen_bit(8, latch, mask, choice)
+        + chosen_bit(16, latch, mask, choice)
+        + chosen_bit(32, latch, mask, choice)
+        + chosen_bit(64, latch, mask, choice)
 }
 
-// Whether an interrupt is pending: 1 or 0.
+// Clears the latch bits that are ones in a mask.
+pub fn clear_latch(block: &mut [u32], mask: u32)
+    requires { ⌜ Whole (now block) ⌝ }
+    ensures { λ r. ⌜ now (block .exit) ≡ latchCleared mask (now (block .entry)) ⌝ }
+{
+    block[LATCH] = chosen(block[LATCH], mask, 0);
+}
+
+// Whether an interrupt is pending, that is a latched bit is enabled: 1 or 0.
 pub fn pending(block: &[u32]) -> u32
     requires { ⌜ Whole (now block) ⌝ }
     ensures { λ r. ⌜ r ≡ pending (now (block .entry)) ⌝ }
 {
-    if common(block[LATCH], block[ENABLE]) == 0 {
+    if chosen(block[LATCH], block[ENABLE], 1) == 0 {
         return 0;
     }
     1

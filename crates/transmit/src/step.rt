@@ -37,7 +37,8 @@ pub struct Stepped {
 // Sends the oldest word of the FIFO with the gap of the rate behind it; quiet if there is none.
 fn send(block: &mut [u32]) -> Output
     requires { ⌜ Usable (now block) ⌝ }
-    ensures { λ r. ⌜ (r ≡ sendOutput (now (block .entry))) × (now (block .exit) ≡ sendAfter (now (block .entry))) ⌝ }
+    ensures output { λ r. ⌜ r ≡ sendOutput (now (block .entry)) ⌝ }
+    ensures after { λ r. ⌜ now (block .exit) ≡ sendAfter (now (block .entry)) ⌝ }
 {
     let level = block[TRANSMIT_LEVEL];
     if level == 0 {
@@ -59,7 +60,8 @@ fn send(block: &mut [u32]) -> Output
 // A step in immediate mode: sends unless paused.
 fn immediate(block: &mut [u32]) -> Output
     requires { ⌜ Usable (now block) ⌝ }
-    ensures { λ r. ⌜ (r ≡ immediateOutput (now (block .entry))) × (now (block .exit) ≡ immediateAfter (now (block .entry))) ⌝ }
+    ensures output { λ r. ⌜ r ≡ immediateOutput (now (block .entry)) ⌝ }
+    ensures after { λ r. ⌜ now (block .exit) ≡ immediateAfter (now (block .entry)) ⌝ }
 {
     if block[STATE] == PAUSED {
         return Output::Quiet;
@@ -70,7 +72,8 @@ fn immediate(block: &mut [u32]) -> Output
 // A step in triggered mode: sends while running, and is idle once the FIFO is empty.
 fn triggered(block: &mut [u32]) -> Output
     requires { ⌜ Usable (now block) ⌝ }
-    ensures { λ r. ⌜ (r ≡ triggeredOutput (now (block .entry))) × (now (block .exit) ≡ triggeredAfter (now (block .entry))) ⌝ }
+    ensures output { λ r. ⌜ r ≡ triggeredOutput (now (block .entry)) ⌝ }
+    ensures after { λ r. ⌜ now (block .exit) ≡ triggeredAfter (now (block .entry)) ⌝ }
 {
     if block[STATE] == RUNNING {
         if block[TRANSMIT_LEVEL] == 0 {
@@ -106,7 +109,9 @@ fn command(block: &[u32]) -> Outcome
 // A step in scheduled mode: one command of the schedule.
 fn scheduled(block: &mut [u32]) -> Stepped
     requires { ⌜ Usable (now block) ⌝ }
-    ensures { λ r. ⌜ (r .output ≡ scheduledOutcome (now (block .entry)) .output) × (r .signal ≡ scheduledSignal (now (block .entry))) × (now (block .exit) ≡ scheduledAfter (now (block .entry))) ⌝ }
+    ensures output { λ r. ⌜ r .output ≡ scheduledOutcome (now (block .entry)) .output ⌝ }
+    ensures signal { λ r. ⌜ r .signal ≡ scheduledSignal (now (block .entry)) ⌝ }
+    ensures after { λ r. ⌜ now (block .exit) ≡ scheduledAfter (now (block .entry)) ⌝ }
 {
     let outcome = command(block);
     let after = outcome.place;
@@ -122,7 +127,9 @@ fn scheduled(block: &mut [u32]) -> Stepped
 // One step: quiet with the transmitter off, else by the mode.
 pub fn step(block: &mut [u32]) -> Stepped
     requires { ⌜ Usable (now block) ⌝ }
-    ensures { λ r. ⌜ (r .output ≡ stepOutput (now (block .entry))) × (r .signal ≡ stepSignal (now (block .entry))) × (now (block .exit) ≡ stepAfter (now (block .entry))) ⌝ }
+    ensures output { λ r. ⌜ r .output ≡ stepOutput (now (block .entry)) ⌝ }
+    ensures signal { λ r. ⌜ r .signal ≡ stepSignal (now (block .entry)) ⌝ }
+    ensures after { λ r. ⌜ now (block .exit) ≡ stepAfter (now (block .entry)) ⌝ }
 {
     if block[TRANSMITTER] == 0 {
         return Stepped {

@@ -1,3 +1,5 @@
+pub mod Accepted
 pub mod Laws
+pub mod Places
 pub mod Stored
 pub mod Told

@@ -6,37 +6,36 @@ use Rattle.fifos.specs.Counts.{counted}
 use Rattle.block.specs.Layout.{word}
 use Rattle.channel_calls.specs.declared.calls.Answer.{Answer}
 use Rattle.channel_calls.specs.declared.calls.Answer.the-variants.{Done, Value}
-use Rattle.frame.specs.Layout.{stamp, resolution, threshold}
+use Rattle.frame.specs.Layout.{stamp}
 use Rattle.wide.specs.Rule.{ruledAll}
+use Rattle.wide.specs.Effects.{wideEffect}
 use Rattle.wide.specs.declared.calls.WideCall.{WideCall}
-use Rattle.wide.specs.declared.calls.WideCall.the-variants.{AdvanceStamp, ZeroStamp, ReadStamp, WriteResolution, ReadResolution, WriteThreshold, ReadThreshold}
+use Rattle.wide.specs.declared.calls.WideEffect.{WideEffect}
+use Rattle.wide.specs.declared.calls.WideEffect.the-variants.{Shows, Stores, Advances}
 
 -- "0 done": what an accepted call answers, a read with the stored number
-abbrev pub wideAnswer : WideCall → List ℕ → Answer
-wideAnswer (AdvanceStamp n) m = Done
-wideAnswer ZeroStamp m = Done
-wideAnswer ReadStamp m = Value (word m stamp)
-wideAnswer (WriteResolution x) m = Done
-wideAnswer ReadResolution m = Value (word m resolution)
-wideAnswer (WriteThreshold x) m = Done
-wideAnswer ReadThreshold m = Value (word m threshold)
+abbrev pub effectAnswer : WideEffect → List ℕ → Answer
+effectAnswer (Shows i) m = Value (word m i)
+effectAnswer (Stores i v) m = Done
+effectAnswer (Advances n) m = Done
 
--- "An advance by any 32-bit number is added and the counter rolls over. It can be zeroed.": the memory with the call's word stored
-abbrev pub wideStored : WideCall → List ℕ → List ℕ
-wideStored (AdvanceStamp n) m = set m stamp (counted (word m stamp) n)
-wideStored ZeroStamp m = set m stamp 0
-wideStored ReadStamp m = m
-wideStored (WriteResolution x) m = set m resolution x
-wideStored ReadResolution m = m
-wideStored (WriteThreshold x) m = set m threshold x
-wideStored ReadThreshold m = m
+-- the memory with the call's word stored: "An advance by any 32-bit number is added and the counter rolls over."
+abbrev pub effectStored : WideEffect → List ℕ → List ℕ
+effectStored (Shows i) m = m
+effectStored (Stores i v) m = set m i v
+effectStored (Advances n) m = set m stamp (counted (word m stamp) n)
 
 -- "Module-wide writes apply the rule to every channel"; a read changes nothing
+abbrev pub effectAfter : WideEffect → List ℕ → List ℕ
+effectAfter (Shows i) m = m
+effectAfter (Stores i v) m = ruledAll m (effectStored (Stores i v) m)
+effectAfter (Advances n) m = ruledAll m (effectStored (Advances n) m)
+
+abbrev pub wideAnswer : WideCall → List ℕ → Answer
+wideAnswer k m = effectAnswer (wideEffect k) m
+
+abbrev pub wideStored : WideCall → List ℕ → List ℕ
+wideStored k m = effectStored (wideEffect k) m
+
 abbrev pub wideAfter : WideCall → List ℕ → List ℕ
-wideAfter (AdvanceStamp n) m = ruledAll m (wideStored (AdvanceStamp n) m)
-wideAfter ZeroStamp m = ruledAll m (wideStored ZeroStamp m)
-wideAfter ReadStamp m = m
-wideAfter (WriteResolution x) m = ruledAll m (wideStored (WriteResolution x) m)
-wideAfter ReadResolution m = m
-wideAfter (WriteThreshold x) m = ruledAll m (wideStored (WriteThreshold x) m)
-wideAfter ReadThreshold m = m
+wideAfter k m = effectAfter (wideEffect k) m

@@ -4,11 +4,10 @@ use mathlib.Core.Path.{_≡_}
 use mathlib.Core.List.{List}
 use Rattle.block.specs.Layout.{word}
 use Rattle.frame.specs.Layout.{stamp, resolution, threshold}
-use Rattle.frame.specs.Refusals.{mostResolution, leastThreshold, mostThreshold}
 use Rattle.channel_calls.specs.Answers.{answerUnless}
 use Rattle.channel_calls.specs.declared.calls.Answer.{Answer}
 use Rattle.channel_calls.specs.declared.calls.Answer.the-variants.{Done, Value}
-use Rattle.wide.specs.Refusals.{rangeRefusal}
+use Rattle.wide.specs.Refusals.{argumentRefusal}
 use Rattle.wide.specs.declared.calls.WideCall.{WideCall}
 use Rattle.wide.specs.declared.calls.WideCall.the-variants.{AdvanceStamp, ZeroStamp, ReadStamp, WriteResolution, ReadResolution, WriteThreshold, ReadThreshold}
 
@@ -27,7 +26,7 @@ abbrev pub WideTold : Part → WideCall → Answer → Type 0
 WideTold p (AdvanceStamp n) a = a ≡ Done
 WideTold p ZeroStamp a = a ≡ Done
 WideTold p ReadStamp a = a ≡ Value (p .stamp)
-WideTold p (WriteResolution x) a = a ≡ answerUnless (rangeRefusal 0 mostResolution x) Done
+WideTold p (WriteResolution x) a = a ≡ answerUnless (argumentRefusal resolution x) Done
 WideTold p ReadResolution a = a ≡ Value (p .resolution)
-WideTold p (WriteThreshold x) a = a ≡ answerUnless (rangeRefusal leastThreshold mostThreshold x) Done
+WideTold p (WriteThreshold x) a = a ≡ answerUnless (argumentRefusal threshold x) Done
 WideTold p ReadThreshold a = a ≡ Value (p .threshold)

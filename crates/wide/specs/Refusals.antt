@@ -2,25 +2,26 @@
 use Prim.Native.Nat.{ℕ}
 use mathlib.Core.List.{List}
 use mathlib.Core.Bool.{cond}
-use lib.Dec.{ltb}
+use Rattle.block.specs.Ranges.{within}
 use Rattle.block.specs.Refusals.{first}
-use Rattle.frame.specs.Refusals.{mostResolution, leastThreshold, mostThreshold, wideRefusal}
+use Rattle.frame.specs.Refusals.{partLeasts, partGreatests, wideRefusal}
+use Rattle.wide.specs.Effects.{wideEffect}
 use Rattle.wide.specs.declared.calls.WideCall.{WideCall}
-use Rattle.wide.specs.declared.calls.WideCall.the-variants.{AdvanceStamp, ZeroStamp, ReadStamp, WriteResolution, ReadResolution, WriteThreshold, ReadThreshold}
+use Rattle.wide.specs.declared.calls.WideEffect.{WideEffect}
+use Rattle.wide.specs.declared.calls.WideEffect.the-variants.{Shows, Stores, Advances}
 
--- "4 range: an argument outside its range below"
-unfoldable pub rangeRefusal : ℕ → ℕ → ℕ → ℕ
-rangeRefusal least greatest x = cond (ltb x least) 4 (cond (ltb greatest x) 4 0)
+-- "4 range: an argument outside its range below"; "Arguments have the same ranges" as the stored numbers: x for word i of the module part
+unfoldable pub argumentRefusal : ℕ → ℕ → ℕ
+argumentRefusal i x = cond (within partLeasts partGreatests i x) 0 4
 
--- "stamp resolution, whole module: 0 to 3", "fault threshold, whole module: 1 to 65,535"; "An advance by any 32-bit number"
+-- a read has no argument; "An advance by any 32-bit number" is never refused for it
+abbrev pub effectRefusal : WideEffect → ℕ
+effectRefusal (Shows i) = 0
+effectRefusal (Stores i v) = argumentRefusal i v
+effectRefusal (Advances n) = 0
+
 abbrev pub wideCallRefusal : WideCall → ℕ
-wideCallRefusal (AdvanceStamp n) = 0
-wideCallRefusal ZeroStamp = 0
-wideCallRefusal ReadStamp = 0
-wideCallRefusal (WriteResolution x) = rangeRefusal 0 mostResolution x
-wideCallRefusal ReadResolution = 0
-wideCallRefusal (WriteThreshold x) = rangeRefusal leastThreshold mostThreshold x
-wideCallRefusal ReadThreshold = 0
+wideCallRefusal k = effectRefusal (wideEffect k)
 
 -- "Tested in number order; the first that applies is given": the memory, then the call
 unfoldable pub callRefusal : WideCall → List ℕ → ℕ

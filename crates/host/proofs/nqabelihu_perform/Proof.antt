@@ -12,7 +12,7 @@ use Rattle.host.proofs.nqabelihu_perform.Tie as tie
 
 returns : tie.Need-returns
 unfolding hostNumber hostValues hostAfter
-returns c = rw (lt-ltb _ 7 (c .if1 .taken)) (refl, refl, refl)
+returns c = rw (lt-ltb _ 7 (c .if1 .taken)) (refl, (refl, refl))
 
 returns-2 : tie.Need-returns-2
 unfolding hostNumber hostValues hostAfter
@@ -20,7 +20,7 @@ returns-2 c =
     let t = le-ltb _ 7 (c .before .before .before .before .before .if1 .left) in
     let e = c .before .before .before .perform-item .ensures in
     let v = c .before .before .before .before .before .before .before .before .args .values .now in
-    (rw t (ap (λ w. getD w 0 0) (e .0 .1)), rw t (ap (λ w. sets v 0 (valueWords w)) (e .0 .1)), rw t (e .1))
+    (rw t (ap (λ w. getD w 0 0) (e .0 .1)), (rw t (ap (λ w. sets v 0 (valueWords w)) (e .0 .1)), rw t (e .1)))
 
 pub nqabelihu-perform-spec : {M : Type 1} → statement M
 nqabelihu-perform-spec =

@@ -17,13 +17,13 @@ read-mailbox-requires : tie.Need-read-mailbox-requires
 read-mailbox-requires c κs = (c .before .before .before .before .before .pre .0, omega (arith, not-above lastIndex _ 3 (rw (c .before .before .call2 .given .1) at (c .before .before .before .before .before .pre .1))))
 
 returns : tie.Need-returns
-returns c = rw (c .before .before .before .before .before .call .given .1) (ap Arrived (c .before .before .arrive .ensures .0), c .before .before .arrive .ensures .1, c .before .before .arrive .ensures .2)
+returns c = rw (c .before .before .before .before .before .call .given .1) (ap Arrived (c .before .before .arrive .ensures .0), (c .before .before .arrive .ensures .1 .0, c .before .before .arrive .ensures .1 .1))
 
 returns-2 : tie.Need-returns-2
-returns-2 c = rw (c .before .before .before .before .enum-told .given .1) (ap entryAnswer (c .before .before .read-fifo .ensures .0), refl, c .before .before .read-fifo .ensures .1)
+returns-2 c = rw (c .before .before .before .before .enum-told .given .1) (ap entryAnswer (c .before .before .read-fifo .ensures .0), (refl, c .before .before .read-fifo .ensures .1))
 
 returns-3 : tie.Need-returns-3
-returns-3 c = rw (c .before .before .before .before .before .call2 .given .1) (ap entryAnswer (c .before .before .read-mailbox .ensures .0), refl, c .before .before .read-mailbox .ensures .1)
+returns-3 c = rw (c .before .before .before .before .before .call2 .given .1) (ap entryAnswer (c .before .before .read-mailbox .ensures .0), (refl, c .before .before .read-mailbox .ensures .1))
 
 pub on-receive-spec : {M : Type 1} → statement M
 on-receive-spec =

@@ -8,11 +8,11 @@ use Rattle.status.proofs.rule.pending.Tie as tie
 
 returns : tie.Need-returns
 unfolding pending
-returns c = search (branches, ← c .before .common .ensures)
+returns c = search (branches, ← c .before .chosen .ensures)
 
 returns-2 : tie.Need-returns-2
 unfolding pending
-returns-2 c = search (branches, ← c .before .common .ensures)
+returns-2 c = search (branches, ← c .before .chosen .ensures)
 
 pub pending-spec : {M : Type 1} → statement M
 pending-spec = tie.close (tie.spec (search needs) (search needs) (search needs) returns returns-2)

@@ -21,7 +21,7 @@ mul-signal : tie.Need-mul-signal
 mul-signal c = omega (arith, signal-fits _ _ (c .before .before .command .ensures))
 
 returns : tie.Need-returns
-returns c = rw (c .before .before .command .ensures) (refl, refl, refl)
+returns c = rw (c .before .before .command .ensures) (refl, (refl, refl))
 
 pub scheduled-spec : {M : Type 1} → statement M
 scheduled-spec =
