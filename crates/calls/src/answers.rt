@@ -37,7 +37,7 @@ pub fn numbers_of(access: Access, answer: Answer) -> Numbers
             words: [0, 0, 0, 0, 0, 0, 0, 0],
         },
         Answer::Refused(number) => Numbers {
-            count: 1 + crate::values::values(access),
+            count: 1 + answer_values::values(access),
             words: [number, 0, 0, 0, 0, 0, 0, 0],
         },
         Answer::Value(x) => Numbers {

@@ -14,8 +14,8 @@ use Rattle.fifos.specs.Clearing.{stopped}
 use Rattle.arrival.specs.Arrival.{arrival}
 use Rattle.receive.specs.Arrived.{arrived, arrivalSignal}
 use Rattle.receive_reads.specs.Reading.{readAnswer, readAfter, mailboxAnswer, mailboxAfter}
-use Rattle.transmit.specs.Writes.{fifoWritten, asyncWritten}
-use Rattle.transmit.specs.States.{afterTrigger, afterPause}
+use Rattle.transmit_controls.specs.Writes.{fifoWritten, asyncWritten}
+use Rattle.transmit_controls.specs.States.{afterTrigger, afterPause}
 use Rattle.transmit.specs.Step.{stepOutput, stepSignal, stepAfter}
 use Rattle.channel_calls.specs.Answers.{settingNumber}
 use Rattle.channel_calls.specs.declared.calls.SettingCall.{SettingCall}

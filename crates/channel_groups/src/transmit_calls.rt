@@ -27,19 +27,19 @@ pub fn on_transmit(block: &mut [u32], call: TransmitCall) -> Did
 {
     match call {
         TransmitCall::WriteFifo(word) => {
-            transmit::writes::write_fifo(block, word);
+            transmit_controls::writes::write_fifo(block, word);
             done()
         }
         TransmitCall::WriteAsync(word) => {
-            transmit::writes::write_async(block, word);
+            transmit_controls::writes::write_async(block, word);
             done()
         }
         TransmitCall::Trigger => {
-            transmit::states::trigger(block);
+            transmit_controls::states::trigger(block);
             done()
         }
         TransmitCall::Pause => {
-            transmit::states::pause(block);
+            transmit_controls::states::pause(block);
             done()
         }
         TransmitCall::Stop => {

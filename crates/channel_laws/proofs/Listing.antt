@@ -35,7 +35,7 @@ use Rattle.fifos.proofs.Bounds.{bounds}
 use Rattle.receive.proofs.Stores.{full}
 use Rattle.receive.proofs.Laws.{entry-by-settings, entry-width}
 use Rattle.schedule.specs.Codes.{idle, running, paused}
-use Rattle.transmit.specs.States.{afterPause}
+use Rattle.transmit_controls.specs.States.{afterPause}
 use Rattle.transmit.specs.Step.{sendAfter, immediateAfter, triggeredAfter, scheduledAfter, stepAfter}
 use Rattle.channel_calls.specs.Answers.{settingNumber}
 use Rattle.channel_calls.proofs.Accepted.{setting-in}

@@ -23,8 +23,8 @@ use Rattle.schedule.specs.Spacing.{Item, Forgotten}
 use Rattle.schedule.proofs.Spacing.{Apart}
 use Rattle.status.specs.Status.{ruled}
 use Rattle.receive.proofs.Laws.{arrive-leaves, read-leaves}
-use Rattle.transmit.specs.States.{afterTrigger, afterPause}
-use Rattle.transmit.specs.Writes.{fifoWritten, asyncWritten}
+use Rattle.transmit_controls.specs.States.{afterTrigger, afterPause}
+use Rattle.transmit_controls.specs.Writes.{fifoWritten, asyncWritten}
 use Rattle.transmit.proofs.Spacing.{step-apart}
 use Rattle.channel_calls.specs.Answers.{settingNumber}
 use Rattle.channel_calls.proofs.Accepted.{setting-in}

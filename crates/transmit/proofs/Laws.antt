@@ -26,9 +26,9 @@ use Rattle.schedule.specs.Output.{isFifoWord}
 use Rattle.schedule.specs.declared.Output.{Output}
 use Rattle.schedule.specs.declared.Output.the-variants.{Quiet, FifoWord}
 use Rattle.schedule.proofs.Laws.{step-state, step-address, step-waiting, step-mark, no-fifo-word}
-use Rattle.transmit.specs.Writes.{HasRoom, fifoWritten, asyncWritten}
+use Rattle.transmit_controls.specs.Writes.{HasRoom, fifoWritten, asyncWritten}
 use Rattle.block.specs.Modes.{immediate, triggered, scheduled}
-use Rattle.transmit.specs.States.{afterTrigger, afterPause}
+use Rattle.transmit_controls.specs.States.{afterTrigger, afterPause}
 use Rattle.transmit.specs.Step.{oldestWord, sendOutput, sendAfter, immediateOutput, immediateAfter, triggeredOutput, triggeredAfter, place, command, message, scheduledOutcome, scheduledAfter, stepOutput, stepAfter}
 
 -- ---- what all of the calls leave

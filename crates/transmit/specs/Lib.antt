@@ -1,3 +1,1 @@
-pub mod Writes
-pub mod States
 pub mod Step

@@ -1,4 +1,2 @@
-// A channel's transmitter, on the channel's block: what a host writes for it, its states, and one step.
-pub mod states;
+// A channel's transmitter, on the channel's block: one step.
 pub mod step;
-pub mod writes;

@@ -15,7 +15,7 @@ use Rattle.schedule.specs.Schedule.{stepAt}
 use Rattle.schedule.specs.declared.Outcome.{Outcome}
 use Rattle.transmit.specs.Step.{place, command, scheduledOutcome}
 use borrow.Author.Needs.{needs}
-use Rattle.transmit.proofs.Bounds.{address-fits}
+use Rattle.transmit_controls.proofs.Bounds.{address-fits}
 use Rattle.transmit.proofs.step.command.Statement.{statement}
 use Rattle.transmit.proofs.step.command.Tie as tie
 

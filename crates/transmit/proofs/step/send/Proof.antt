@@ -6,7 +6,7 @@ use Rattle.word.proofs.Branches.{branches}
 use native.Mathlib.Omega.{arith}
 use borrow.Author.Tests.{ne-eqb}
 use Rattle.transmit.specs.Step.{oldestWord, sendOutput, sendAfter}
-use Rattle.transmit.proofs.Bounds.{position-fits}
+use Rattle.transmit_controls.proofs.Bounds.{position-fits}
 use borrow.Author.Needs.{needs}
 use Rattle.transmit.proofs.step.send.Statement.{statement}
 use Rattle.transmit.proofs.step.send.Tie as tie

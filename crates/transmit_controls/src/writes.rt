@@ -7,7 +7,7 @@ use block::layout::TRANSMIT_POSITION;
 use block::layout::TRANSMIT_RING;
 ghost use mathlib.Core.Path.{_≡_};
 ghost use Rattle.block.specs.Ranges.{Usable};
-ghost use Rattle.transmit.specs.Writes.{HasRoom, fifoWritten, asyncWritten};
+ghost use Rattle.transmit_controls.specs.Writes.{HasRoom, fifoWritten, asyncWritten};
 
 // Accepts a word behind those that the transmit FIFO holds.
 pub fn write_fifo(block: &mut [u32], word: u32)

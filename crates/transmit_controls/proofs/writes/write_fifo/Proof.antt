@@ -1,11 +1,11 @@
--- `transmit::writes::write_fifo` meets its contract, from what its callees ensure.
+-- `transmit_controls::writes::write_fifo` meets its contract, from what its callees ensure.
 -- Assumes nothing.
 use lib.ListN.{length-set}
-use Rattle.transmit.proofs.Bounds.{position-fits}
+use Rattle.transmit_controls.proofs.Bounds.{position-fits}
 use native.Mathlib.Omega.{arith}
 use borrow.Author.Needs.{needs}
-use Rattle.transmit.proofs.writes.write_fifo.Statement.{statement}
-use Rattle.transmit.proofs.writes.write_fifo.Tie as tie
+use Rattle.transmit_controls.proofs.writes.write_fifo.Statement.{statement}
+use Rattle.transmit_controls.proofs.writes.write_fifo.Tie as tie
 
 append1-requires : tie.Need-append1-requires
 append1-requires c κs = (position-fits (c .before .before .before .before .before .pre .0), search needs, search needs)

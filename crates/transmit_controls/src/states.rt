@@ -7,7 +7,7 @@ use schedule::PAUSED;
 use schedule::RUNNING;
 ghost use mathlib.Core.Path.{_≡_};
 ghost use Rattle.block.specs.Ranges.{Usable};
-ghost use Rattle.transmit.specs.States.{afterTrigger, afterPause};
+ghost use Rattle.transmit_controls.specs.States.{afterTrigger, afterPause};
 
 // Sets the transmitter running. The caller has tested that it is on.
 pub fn trigger(block: &mut [u32])

@@ -1,4 +1,4 @@
-// How many values an access answers beside the number.
+// How many values an access answers beside its number: a refusal has as many zeros.
 use channel_calls::calls::ChannelCall;
 use channel_calls::calls::MemoryCall;
 use channel_calls::calls::ReadCall;
