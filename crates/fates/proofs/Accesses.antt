@@ -19,15 +19,15 @@ use Rattle.module.specs.OnChannel.{onRefusal, givenOf, onAnswer, onAfter}
 use Rattle.module.specs.declared.calls.Call.the-variants.{On}
 use Rattle.module_laws.specs.Reduced.{reduced}
 use Rattle.registers.specs.Access.{turnedAnswer, turnedAfter, accessAnswer, accessAfter}
-use Rattle.registers.specs.Shown.{shown}
-use Rattle.registers.specs.Turned.{readTurned, writeTurned}
+use Rattle.register_map.specs.Shown.{shown}
+use Rattle.register_map.specs.Turned.{readTurned, writeTurned}
 use Rattle.registers.specs.Masked.{controlCall, isNamed, triedOn, triedTo, maskedAfter}
 use Rattle.registers.specs.declared.accesses.Access.{Access}
 use Rattle.registers.specs.declared.accesses.Access.the-variants.{Direct, ReadRegister, WriteRegister}
-use Rattle.registers.specs.declared.map.Control.{Control}
-use Rattle.registers.specs.declared.shown.Bits.{Bits}
-use Rattle.registers.specs.declared.turned.Turned.{Turned}
-use Rattle.registers.specs.declared.turned.Turned.the-variants.{NotTurned, OneCall, EachNamed}
+use Rattle.register_map.specs.declared.map.Control.{Control}
+use Rattle.register_map.specs.declared.shown.Bits.{Bits}
+use Rattle.register_map.specs.declared.turned.Turned.{Turned}
+use Rattle.register_map.specs.declared.turned.Turned.the-variants.{NotTurned, OneCall, EachNamed}
 use Rattle.fates.specs.History.{History, Telling, Silent, Performed, writeTells, tells, historyStep}
 use Rattle.fates.specs.Run.{lent}
 use Rattle.fates.specs.Agrees.{Agrees}

@@ -27,13 +27,13 @@ use Rattle.module.specs.declared.calls.Call.{Call}
 use Rattle.module.specs.declared.calls.Call.the-variants.{PowerUp, Reset, Wide, On}
 use Rattle.module_laws.proofs.Lent.{Alike, Short, front, front-on, front-wide, front-reset, short-on, short-wide, short-reset}
 use Rattle.registers.specs.Access.{turnedAnswer, turnedAfter, accessAnswer, accessAfter}
-use Rattle.registers.specs.Turned.{readTurned, writeTurned}
+use Rattle.register_map.specs.Turned.{readTurned, writeTurned}
 use Rattle.registers.specs.Masked.{controlCall, isNamed, triedOn, triedTo, maskedAnswer, maskedAfter}
 use Rattle.registers.specs.declared.accesses.Access.{Access}
 use Rattle.registers.specs.declared.accesses.Access.the-variants.{Direct, ReadRegister, WriteRegister}
-use Rattle.registers.specs.declared.map.Control.{Control}
-use Rattle.registers.specs.declared.turned.Turned.{Turned}
-use Rattle.registers.specs.declared.turned.Turned.the-variants.{NotTurned, OneCall, EachNamed}
+use Rattle.register_map.specs.declared.map.Control.{Control}
+use Rattle.register_map.specs.declared.turned.Turned.{Turned}
+use Rattle.register_map.specs.declared.turned.Turned.the-variants.{NotTurned, OneCall, EachNamed}
 use Rattle.fates.specs.History.{Telling, Silent, Performed, writeTells, tells, history}
 use Rattle.fates.specs.Run.{lent, run, toldBy}
 use Rattle.fates.specs.Agrees.{Agrees}

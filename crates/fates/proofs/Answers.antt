@@ -32,16 +32,16 @@ use Rattle.module.specs.OnChannel.{onRefusal, givenOf, onAnswer}
 use Rattle.module.specs.Perform.{answer}
 use Rattle.module.specs.declared.calls.Call.{Call}
 use Rattle.module.specs.declared.calls.Call.the-variants.{PowerUp, Reset, Wide, On}
-use Rattle.registers.specs.Shown.{shown as registerShown}
+use Rattle.register_map.specs.Shown.{shown as registerShown}
 use Rattle.registers.specs.Access.{turnedAnswer, accessAnswer}
-use Rattle.registers.specs.Turned.{readTurned, writeTurned}
+use Rattle.register_map.specs.Turned.{readTurned, writeTurned}
 use Rattle.registers.specs.Masked.{controlCall, refusedOn, triedTo, refusedTo, maskedAnswer}
 use Rattle.registers.specs.declared.accesses.Access.{Access}
 use Rattle.registers.specs.declared.accesses.Access.the-variants.{Direct, ReadRegister, WriteRegister}
-use Rattle.registers.specs.declared.map.Control.{Control}
-use Rattle.registers.specs.declared.map.Control.the-variants.{TriggerEach, PauseEach, StopEach}
-use Rattle.registers.specs.declared.turned.Turned.{Turned}
-use Rattle.registers.specs.declared.turned.Turned.the-variants.{NotTurned, OneCall, EachNamed}
+use Rattle.register_map.specs.declared.map.Control.{Control}
+use Rattle.register_map.specs.declared.map.Control.the-variants.{TriggerEach, PauseEach, StopEach}
+use Rattle.register_map.specs.declared.turned.Turned.{Turned}
+use Rattle.register_map.specs.declared.turned.Turned.the-variants.{NotTurned, OneCall, EachNamed}
 use Rattle.module_laws.specs.Reduced.{reduced}
 use Rattle.module_laws.proofs.Sane.{sane-part, sane-wide}
 use Rattle.module_laws.proofs.Lent.{front, front-on, front-wide, front-reset, sane-on, part-short, short-on, short-wide, short-reset}

@@ -35,11 +35,11 @@ use Rattle.channel_calls.specs.declared.calls.Answer.the-variants.{Done, Refuse
 use Rattle.channel_laws.specs.Effects.{byAnswer, arriveChange, readChange, outputChange, stepChange, nothing, effect}
 use Rattle.module.specs.declared.calls.Call.{Call}
 use Rattle.module.specs.declared.calls.Call.the-variants.{PowerUp, Reset, Wide, On}
-use Rattle.registers.specs.Turned.{writeTurned}
+use Rattle.register_map.specs.Turned.{writeTurned}
 use Rattle.registers.specs.declared.accesses.Access.{Access}
 use Rattle.registers.specs.declared.accesses.Access.the-variants.{Direct, ReadRegister, WriteRegister}
-use Rattle.registers.specs.declared.turned.Turned.{Turned}
-use Rattle.registers.specs.declared.turned.Turned.the-variants.{NotTurned, OneCall, EachNamed}
+use Rattle.register_map.specs.declared.turned.Turned.{Turned}
+use Rattle.register_map.specs.declared.turned.Turned.the-variants.{NotTurned, OneCall, EachNamed}
 use Rattle.module_laws.specs.Reduced.{reduced}
 use Rattle.fates.specs.History.{History, Telling, Silent, Performed, writeTells, tells, effectOn, history}
 use Rattle.fates.specs.Ledger.{Side, Receiving, Transmitting, fifoOf, changeOf, aside, Fits}

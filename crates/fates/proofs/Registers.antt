@@ -15,15 +15,15 @@ use Rattle.channel_calls.specs.declared.calls.Given.{Given}
 use Rattle.channel_calls.specs.declared.calls.Answer.{Answer}
 use Rattle.channel_calls.specs.declared.calls.Answer.the-variants.{Done}
 use Rattle.channel_laws.specs.Effects.{nothing, effect}
-use Rattle.registers.specs.Map.{bytes, registerAt}
-use Rattle.registers.specs.Turned.{readOf, readTurned, writeOf, writeTurned}
+use Rattle.register_map.specs.Map.{bytes, registerAt}
+use Rattle.register_map.specs.Turned.{readOf, readTurned, writeOf, writeTurned}
 use Rattle.registers.specs.Masked.{controlCall}
-use Rattle.registers.specs.declared.map.Control.{Control}
-use Rattle.registers.specs.declared.map.Control.the-variants.{TriggerEach, PauseEach, StopEach}
-use Rattle.registers.specs.declared.map.Register.{Register}
-use Rattle.registers.specs.declared.map.Register.the-variants.{NoRegister, RateOf, AsyncOf, StatusOf, ScheduleOf, MessageOf, ControlOf}
-use Rattle.registers.specs.declared.turned.Turned.{Turned}
-use Rattle.registers.specs.declared.turned.Turned.the-variants.{NotTurned, OneCall, EachNamed}
+use Rattle.register_map.specs.declared.map.Control.{Control}
+use Rattle.register_map.specs.declared.map.Control.the-variants.{TriggerEach, PauseEach, StopEach}
+use Rattle.register_map.specs.declared.map.Register.{Register}
+use Rattle.register_map.specs.declared.map.Register.the-variants.{NoRegister, RateOf, AsyncOf, StatusOf, ScheduleOf, MessageOf, ControlOf}
+use Rattle.register_map.specs.declared.turned.Turned.{Turned}
+use Rattle.register_map.specs.declared.turned.Turned.the-variants.{NotTurned, OneCall, EachNamed}
 
 -- ---- calls that change nothing that a history keeps
 

@@ -27,15 +27,15 @@ use Rattle.module.specs.declared.calls.Call.the-variants.{PowerUp, Reset, Wide,
 use Rattle.module_laws.proofs.OnChannel.{on-word, on-other}
 use Rattle.module_laws.proofs.Beyond.{beyond, same-length}
 use Rattle.registers.specs.Access.{turnedAnswer, turnedAfter}
-use Rattle.registers.specs.Shown.{shown}
-use Rattle.registers.specs.Turned.{readTurned, writeTurned}
+use Rattle.register_map.specs.Shown.{shown}
+use Rattle.register_map.specs.Turned.{readTurned, writeTurned}
 use Rattle.registers.specs.Masked.{controlCall, isNamed, triedOn, triedTo, refusedTo, maskedAfter}
 use Rattle.registers.specs.declared.accesses.Access.{Access}
 use Rattle.registers.specs.declared.accesses.Access.the-variants.{Direct, ReadRegister, WriteRegister}
-use Rattle.registers.specs.declared.map.Control.{Control}
-use Rattle.registers.specs.declared.shown.Bits.{Bits}
-use Rattle.registers.specs.declared.turned.Turned.{Turned}
-use Rattle.registers.specs.declared.turned.Turned.the-variants.{NotTurned, OneCall, EachNamed}
+use Rattle.register_map.specs.declared.map.Control.{Control}
+use Rattle.register_map.specs.declared.shown.Bits.{Bits}
+use Rattle.register_map.specs.declared.turned.Turned.{Turned}
+use Rattle.register_map.specs.declared.turned.Turned.the-variants.{NotTurned, OneCall, EachNamed}
 use Rattle.fates.specs.Untouched.{LeavesAlone}
 use Rattle.fates.proofs.Accepted.{block-accepted, wide-accepted}
 

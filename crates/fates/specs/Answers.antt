@@ -13,16 +13,16 @@ use Rattle.channel_calls.specs.declared.calls.ChannelCall.{ChannelCall}
 use Rattle.wide.specs.Part.{WideTold}
 use Rattle.module.specs.declared.calls.Call.{Call}
 use Rattle.module.specs.declared.calls.Call.the-variants.{PowerUp, Reset, Wide, On}
-use Rattle.registers.specs.Shown.{shown}
-use Rattle.registers.specs.Turned.{readTurned, writeTurned}
+use Rattle.register_map.specs.Shown.{shown}
+use Rattle.register_map.specs.Turned.{readTurned, writeTurned}
 use Rattle.registers.specs.Masked.{bitIf}
 use Rattle.registers.specs.declared.accesses.Access.{Access}
 use Rattle.registers.specs.declared.accesses.Access.the-variants.{Direct, ReadRegister, WriteRegister}
-use Rattle.registers.specs.declared.map.Control.{Control}
-use Rattle.registers.specs.declared.map.Control.the-variants.{TriggerEach, PauseEach, StopEach}
-use Rattle.registers.specs.declared.shown.Bits.{Bits}
-use Rattle.registers.specs.declared.turned.Turned.{Turned}
-use Rattle.registers.specs.declared.turned.Turned.the-variants.{NotTurned, OneCall, EachNamed}
+use Rattle.register_map.specs.declared.map.Control.{Control}
+use Rattle.register_map.specs.declared.map.Control.the-variants.{TriggerEach, PauseEach, StopEach}
+use Rattle.register_map.specs.declared.shown.Bits.{Bits}
+use Rattle.register_map.specs.declared.turned.Turned.{Turned}
+use Rattle.register_map.specs.declared.turned.Turned.the-variants.{NotTurned, OneCall, EachNamed}
 use Rattle.module_laws.specs.Reduced.{reduced}
 use Rattle.fates.specs.History.{History}
 

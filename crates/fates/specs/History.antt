@@ -14,11 +14,11 @@ use Rattle.wide.specs.declared.calls.WideCall.{WideCall}
 use Rattle.wide.specs.declared.calls.WideCall.the-variants.{AdvanceStamp, ZeroStamp, ReadStamp, WriteResolution, ReadResolution, WriteThreshold, ReadThreshold}
 use Rattle.module.specs.declared.calls.Call.{Call}
 use Rattle.module.specs.declared.calls.Call.the-variants.{PowerUp, Reset, Wide, On}
-use Rattle.registers.specs.Turned.{writeTurned}
+use Rattle.register_map.specs.Turned.{writeTurned}
 use Rattle.registers.specs.declared.accesses.Access.{Access}
 use Rattle.registers.specs.declared.accesses.Access.the-variants.{Direct, ReadRegister, WriteRegister}
-use Rattle.registers.specs.declared.turned.Turned.{Turned}
-use Rattle.registers.specs.declared.turned.Turned.the-variants.{NotTurned, OneCall, EachNamed}
+use Rattle.register_map.specs.declared.turned.Turned.{Turned}
+use Rattle.register_map.specs.declared.turned.Turned.the-variants.{NotTurned, OneCall, EachNamed}
 
 -- "It keeps the stamp, all settings and, for each FIFO, the held entries and whole-number counts.", and the count of channels
 pub record History : Type 0 where

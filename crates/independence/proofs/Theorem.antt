@@ -9,12 +9,12 @@ use Rattle.module.specs.OnChannel.{onAnswer, onAfter}
 use Rattle.module.specs.declared.calls.Call.the-variants.{PowerUp, Reset, Wide, On}
 use Rattle.module_laws.proofs.Lens.{stays, same-answer, in-either-order}
 use Rattle.registers.specs.Access.{turnedAnswer, turnedAfter, accessAnswer, accessAfter}
-use Rattle.registers.specs.Shown.{shown}
-use Rattle.registers.specs.Turned.{readTurned, writeTurned}
+use Rattle.register_map.specs.Shown.{shown}
+use Rattle.register_map.specs.Turned.{readTurned, writeTurned}
 use Rattle.registers.specs.declared.accesses.Access.{Access}
 use Rattle.registers.specs.declared.accesses.Access.the-variants.{Direct, ReadRegister, WriteRegister}
-use Rattle.registers.specs.declared.turned.Turned.{Turned}
-use Rattle.registers.specs.declared.turned.Turned.the-variants.{NotTurned, OneCall, EachNamed}
+use Rattle.register_map.specs.declared.turned.Turned.{Turned}
+use Rattle.register_map.specs.declared.turned.Turned.the-variants.{NotTurned, OneCall, EachNamed}
 use Rattle.independence.specs.Names.{TurnedNames, Names}
 use Rattle.independence.specs.Theorem.{InEitherOrder, ChannelsApart}
 

@@ -17,11 +17,11 @@ use Rattle.module.specs.declared.calls.Call.{Call}
 use Rattle.module.specs.declared.calls.Call.the-variants.{PowerUp, Reset, Wide, On}
 use Rattle.module_laws.specs.Layouts.{OtherLayoutRefused}
 use Rattle.module_laws.proofs.Layouts.{other-layout-refused}
-use Rattle.registers.specs.Shown.{shown}
+use Rattle.register_map.specs.Shown.{shown}
 use Rattle.registers.specs.Access.{turnedAnswer, turnedAfter}
-use Rattle.registers.specs.Turned.{readTurned, writeTurned}
-use Rattle.registers.specs.declared.turned.Turned.{Turned}
-use Rattle.registers.specs.declared.turned.Turned.the-variants.{NotTurned, OneCall, EachNamed}
+use Rattle.register_map.specs.Turned.{readTurned, writeTurned}
+use Rattle.register_map.specs.declared.turned.Turned.{Turned}
+use Rattle.register_map.specs.declared.turned.Turned.the-variants.{NotTurned, OneCall, EachNamed}
 use Rattle.register_laws.specs.Layouts.{OtherLayoutRefusedByRegisters}
 
 -- a call on a channel is no power-up

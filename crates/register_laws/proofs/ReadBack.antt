@@ -29,11 +29,11 @@ use Rattle.frame.specs.Refusals.{channelOf}
 use Rattle.module.specs.OnChannel.{onRefusal, givenOf, acceptedAfter, onAnswer, onAfter}
 use Rattle.module_laws.proofs.Sane.{standing-part}
 use Rattle.module_laws.proofs.OnChannel.{on-within, on-call, on-word, on-same, on-standing, usable-after}
-use Rattle.registers.specs.Shown.{shown, bitsOf}
+use Rattle.register_map.specs.Shown.{shown, bitsOf}
 use Rattle.register_laws.specs.ReadBack.{ReadsBack}
-use Rattle.registers.specs.declared.map.Register.the-variants.{RateOf, AsyncOf, ScheduleOf, MessageOf}
-use Rattle.registers.specs.declared.shown.Bits.{Bits}
-use Rattle.registers.specs.declared.shown.Bits.the-variants.{AllBits, CommandBits}
+use Rattle.register_map.specs.declared.map.Register.the-variants.{RateOf, AsyncOf, ScheduleOf, MessageOf}
+use Rattle.register_map.specs.declared.shown.Bits.{Bits}
+use Rattle.register_map.specs.declared.shown.Bits.the-variants.{AllBits, CommandBits}
 
 -- a call whose answer a register shows as a value was not refused
 accepted : (ch : ℕ) (k : ChannelCall) (bits : Bits) (x : ℕ) (m : List ℕ) → shown bits (onAnswer ch k m) ≡ Value x → onRefusal ch k m ≡ 0

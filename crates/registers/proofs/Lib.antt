@@ -1,4 +1,2 @@
 pub mod Masks
-pub mod Addresses
 pub mod Values
-pub mod Places

@@ -14,7 +14,7 @@ use Rattle.channel_calls.specs.declared.calls.Answer.{Answer}
 use Rattle.channel_calls.specs.declared.calls.ChannelCall.{ChannelCall}
 use Rattle.module.specs.OnChannel.{onAnswer, onAfter}
 use Rattle.registers.specs.Masked.{controlCall, isNamed, triedOn, refusedOn, triedTo, refusedTo}
-use Rattle.registers.specs.declared.map.Control.{Control}
+use Rattle.register_map.specs.declared.map.Control.{Control}
 
 module _ (c : Control) (mask : ℕ) where
   -- a channel that is named and tried with answer a

@@ -13,15 +13,15 @@ use Rattle.frame.specs.Layout.{most}
 use Rattle.frame.specs.Refusals.{partRefusal}
 use Rattle.module.specs.OnChannel.{onAnswer}
 use Rattle.module.proofs.Values.{listed}
-use Rattle.registers.specs.Shown.{shown}
-use Rattle.registers.specs.Turned.{readTurned, writeTurned}
+use Rattle.register_map.specs.Shown.{shown}
+use Rattle.register_map.specs.Turned.{readTurned, writeTurned}
 use Rattle.registers.specs.Masked.{refusedTo}
 use Rattle.registers.specs.Access.{turnedAnswer, accessAnswer, accessValues, accessNumbers}
 use Rattle.registers.specs.declared.accesses.Access.{Access}
 use Rattle.registers.specs.declared.accesses.Access.the-variants.{Direct, ReadRegister, WriteRegister}
-use Rattle.registers.specs.declared.shown.Bits.{Bits}
-use Rattle.registers.specs.declared.turned.Turned.{Turned}
-use Rattle.registers.specs.declared.turned.Turned.the-variants.{NotTurned, OneCall, EachNamed}
+use Rattle.register_map.specs.declared.shown.Bits.{Bits}
+use Rattle.register_map.specs.declared.turned.Turned.{Turned}
+use Rattle.register_map.specs.declared.turned.Turned.the-variants.{NotTurned, OneCall, EachNamed}
 
 shown-listed : (bits : Bits) (a : Answer) → length (numbersOf 1 (shown bits a)) ≡ 2
 shown-listed bits Done = refl

@@ -6,13 +6,13 @@ use Rattle.channel_calls.specs.declared.calls.Answer.{Answer}
 use Rattle.channel_calls.specs.declared.calls.Answer.the-variants.{Refused}
 use Rattle.module.specs.OnChannel.{onAnswer, onAfter}
 use Rattle.module.specs.Perform.{answer, after, values}
-use Rattle.registers.specs.Shown.{shown}
-use Rattle.registers.specs.Turned.{readTurned, writeTurned}
+use Rattle.register_map.specs.Shown.{shown}
+use Rattle.register_map.specs.Turned.{readTurned, writeTurned}
 use Rattle.registers.specs.Masked.{maskedAnswer, maskedAfter}
 use Rattle.registers.specs.declared.accesses.Access.{Access}
 use Rattle.registers.specs.declared.accesses.Access.the-variants.{Direct, ReadRegister, WriteRegister}
-use Rattle.registers.specs.declared.turned.Turned.{Turned}
-use Rattle.registers.specs.declared.turned.Turned.the-variants.{NotTurned, OneCall, EachNamed}
+use Rattle.register_map.specs.declared.turned.Turned.{Turned}
+use Rattle.register_map.specs.declared.turned.Turned.the-variants.{NotTurned, OneCall, EachNamed}
 
 -- refused before document 01's numbers; that call on that channel; or each named channel
 abbrev pub turnedAnswer : Turned → List ℕ → Answer

@@ -1,5 +1,2 @@
-pub mod Map
-pub mod Shown
-pub mod Turned
 pub mod Masked
 pub mod Access

@@ -14,8 +14,8 @@ use Rattle.channel_calls.specs.declared.calls.Answer.the-variants.{Value}
 use Rattle.frame.specs.Layout.{most}
 use Rattle.frame.specs.Refusals.{partRefusal}
 use Rattle.module.specs.OnChannel.{onAnswer, onAfter}
-use Rattle.registers.specs.declared.map.Control.{Control}
-use Rattle.registers.specs.declared.map.Control.the-variants.{TriggerEach, PauseEach, StopEach}
+use Rattle.register_map.specs.declared.map.Control.{Control}
+use Rattle.register_map.specs.declared.map.Control.the-variants.{TriggerEach, PauseEach, StopEach}
 
 abbrev pub controlCall : Control → ChannelCall
 controlCall TriggerEach = Transmit Trigger

@@ -1,7 +1,4 @@
 // The register front: 32-bit reads and writes at the old module's addresses, turned into calls.
 pub mod accesses;
-pub mod map;
 pub mod masked;
 pub mod perform;
-pub mod shown;
-pub mod turned;

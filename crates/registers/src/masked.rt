@@ -1,10 +1,10 @@
 // A masked write: trigger, pause or stop, on each channel that the mask names.
-use crate::map::Control;
 use bits::weight;
 use channel_calls::calls::Answer;
 use channel_calls::calls::ChannelCall;
 use channel_calls::calls::TransmitCall;
 use frame::layout::MOST;
+use register_map::map::Control;
 ghost use mathlib.Core.Path.{_≡_};
 ghost use Prim.Native.Nat.{_≤_};
 ghost use Rattle.frame.specs.Layout.{most};

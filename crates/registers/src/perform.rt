@@ -1,7 +1,7 @@
 // The entry for accesses.
 use crate::accesses::Access;
-use crate::turned::Turned;
 use channel_calls::calls::Answer;
+use register_map::turned::Turned;
 ghost use mathlib.Core.Path.{_≡_};
 ghost use Rattle.registers.specs.Access.{turnedAnswer, turnedAfter, accessAnswer, accessAfter};
 
@@ -14,7 +14,7 @@ fn perform_turned(mem: &mut [u32], turned: Turned) -> Answer
         Turned::NotTurned(number) => Answer::Refused(number),
         Turned::OneCall(channel, call, bits) => {
             let answer = module::on_channel::on_channel(mem, channel, call);
-            crate::shown::shown(bits, answer)
+            register_map::shown::shown(bits, answer)
         }
         Turned::EachNamed(control, mask) => crate::masked::masked(mem, control, mask),
     }
@@ -28,10 +28,10 @@ pub fn perform(mem: &mut [u32], access: Access) -> Answer
     match access {
         Access::Direct(call) => module::perform::perform(mem, call),
         Access::ReadRegister(address) => {
-            perform_turned(mem, crate::turned::read_turned(address))
+            perform_turned(mem, register_map::turned::read_turned(address))
         }
         Access::WriteRegister(address, value) => {
-            perform_turned(mem, crate::turned::write_turned(address, value))
+            perform_turned(mem, register_map::turned::write_turned(address, value))
         }
     }
 }

@@ -2,7 +2,7 @@
 -- Assumes nothing.
 use mathlib.Core.Path.{refl, ap, _∙_}
 use borrow.Author.Needs.{needs}
-use Rattle.registers.specs.Shown.{shown}
+use Rattle.register_map.specs.Shown.{shown}
 use Rattle.registers.proofs.perform.perform_turned.Statement.{statement}
 use Rattle.registers.proofs.perform.perform_turned.Tie as tie
 
