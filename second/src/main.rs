@@ -2,6 +2,8 @@
 //! `second compare-proved --calls N --seed S` (feature `proved`): the words against the proved library, answers and the whole memory.
 //! `second readings --seed S` (feature `proved`): readings of words against the proved library.
 //! `second captures --seed S` (feature `proved`): capture files against the proved library.
+//! `second explain COUNT PLACE`: the reason for the arrival at a place of the 16-byte items from standard input, in one line.
+//! `second explain-lists --seed S --cases N --program PATH`: random questions of that kind, asked here and of another program.
 //! `second list --calls N --seed S`: the same random calls as 16-byte items, for a program that reads them.
 //! `second replay`: performs a list of 16-byte items from standard input, one answer line for each.
 //! `second show-capture`: the records of a capture from standard input, one line for each.
@@ -22,6 +24,7 @@ use second::lists::{lists, Dice, Event};
 
 const USE: &str = "second compare --calls N --seed S | list --calls N --seed S | replay
     | show-capture | make-capture | random-capture --records N (--bad | --long-bad) NUMBER --seed S
+    | explain COUNT PLACE | explain-lists --seed S --cases N --program PATH
 with the feature `proved` also: compare-proved --calls N --seed S | readings --seed S | captures --seed S";
 
 fn main() -> ExitCode {
@@ -62,8 +65,49 @@ fn main() -> ExitCode {
                 _ => wrong_use(),
             }
         }
+        ["explain", count, place] => match (number(count), number(place)) {
+            (Some(count), Some(place)) => written("explain", explain(count, place)),
+            _ => wrong_use(),
+        },
+        ["explain-lists", "--seed", seed, "--cases", cases, "--program", path] => {
+            use second::compare_reasons::{compare, OwnReasons, Program};
+            match (seed.parse(), cases.parse()) {
+                (Ok(seed), Ok(cases)) => compared("explain", || {
+                    let mut program = Program { path: path.to_string() };
+                    compare(cases, seed, &mut OwnReasons, &mut program).map(|seen| seen.shown())
+                }),
+                _ => wrong_use(),
+            }
+        }
         _ => wrong_use(),
     }
+}
+
+/// Runs a comparison with another program and prints what was seen.
+fn compared(what: &str, comparison: impl FnOnce() -> Result<String, String>) -> ExitCode {
+    let start = Instant::now();
+    match comparison() {
+        Ok(seen) => {
+            println!("{what}: {seen}; {:.2} s, no difference", start.elapsed().as_secs_f64());
+            ExitCode::SUCCESS
+        }
+        Err(difference) => {
+            println!("{what}, first this program, second the other: {difference}");
+            ExitCode::FAILURE
+        }
+    }
+}
+
+/// A decimal number; one above the greatest of 32 bits counts as that.
+fn number(argument: &str) -> Option<u32> {
+    let digits = !argument.is_empty() && argument.bytes().all(|digit| digit.is_ascii_digit());
+    digits.then(|| argument.parse().unwrap_or(u32::MAX))
+}
+
+/// The working memory is that of twelve channels.
+fn explain(count: u32, place: u32) -> io::Result<()> {
+    println!("{}", second::why::line(second::why::explain(count, &whole_input()?, place, need(CHANNELS))));
+    Ok(())
 }
 
 fn written(what: &str, result: io::Result<()>) -> ExitCode {

@@ -42,7 +42,7 @@ ordered-append R (x ∷ s) t p q h = (every-append (R x) s t (p .0) (h .0), orde
 
 -- ---- the entries that were accepted, by the first n accesses and by one more
 
-abbrev PlacesWithin : ℕ → List Accepted → Type 0
+abbrev pub PlacesWithin : ℕ → List Accepted → Type 0
 PlacesWithin n xs = Every (λ x. x .place ≤ n) xs
 
 within-next : (n : ℕ) (xs : List Accepted) → PlacesWithin n xs → PlacesWithin (suc n) xs
@@ -130,7 +130,7 @@ module _ (side : Side) (ch : ℕ) where
       numbered-after _ (changeBehind side ch before e) (ledger side ch before)
       ∙ ap (acceptedAfter _ (changeBehind side ch before e)) (all-numbered before)
 
-  within : (es : List Telling) → PlacesWithin (length es) (acceptedBy side ch es)
+  pub within : (es : List Telling) → PlacesWithin (length es) (acceptedBy side ch es)
   within [] = tt
   within (e ∷ before) = within-after (length before) (changeBehind side ch before e) (acceptedBy side ch before) (within before)
 

@@ -1,0 +1,5 @@
+pub mod Lookup
+pub mod Behind
+pub mod Tracking
+pub mod Held
+pub mod Unique

@@ -1,0 +1,4 @@
+pub mod Question
+pub mod Followed
+pub mod Explained
+pub mod Theorem
