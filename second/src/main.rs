@@ -4,6 +4,8 @@
 //! `second captures --seed S` (feature `proved`): capture files against the proved library.
 //! `second explain COUNT PLACE`: the reason for the arrival at a place of the 16-byte items from standard input, in one line.
 //! `second explain-lists --seed S --cases N --program PATH`: random questions of that kind, asked here and of another program.
+//! `second judge`: the verdict on a bench card, whose text is on standard input.
+//! `second cards --seed S --cases N --program PATH`: random bench cards, judged here and by another program.
 //! `second list --calls N --seed S`: the same random calls as 16-byte items, for a program that reads them.
 //! `second replay`: performs a list of 16-byte items from standard input, one answer line for each.
 //! `second show-capture`: the records of a capture from standard input, one line for each.
@@ -25,6 +27,7 @@ use second::lists::{lists, Dice, Event};
 const USE: &str = "second compare --calls N --seed S | list --calls N --seed S | replay
     | show-capture | make-capture | random-capture --records N (--bad | --long-bad) NUMBER --seed S
     | explain COUNT PLACE | explain-lists --seed S --cases N --program PATH
+    | judge | cards --seed S --cases N --program PATH
 with the feature `proved` also: compare-proved --calls N --seed S | readings --seed S | captures --seed S";
 
 fn main() -> ExitCode {
@@ -79,6 +82,16 @@ fn main() -> ExitCode {
                 _ => wrong_use(),
             }
         }
+        ["judge"] => written("judge", judge()),
+        ["cards", "--seed", seed, "--cases", cases, "--program", path] => {
+            use second::compare_cards::{compare, OwnJudge, Program};
+            match (seed.parse(), cases.parse()) {
+                (Ok(seed), Ok(cases)) => compared("judge", || {
+                    compare(cases, seed, &mut OwnJudge, &mut Program::new(path, seed)).map(|seen| seen.shown())
+                }),
+                _ => wrong_use(),
+            }
+        }
         _ => wrong_use(),
     }
 }
@@ -107,6 +120,15 @@ fn number(argument: &str) -> Option<u32> {
 /// The working memory is that of twelve channels.
 fn explain(count: u32, place: u32) -> io::Result<()> {
     println!("{}", second::why::line(second::why::explain(count, &whole_input()?, place, need(CHANNELS))));
+    Ok(())
+}
+
+/// A card that is none is not judged: the first line that is wrong is named.
+fn judge() -> io::Result<()> {
+    match second::judge::card_of(&String::from_utf8_lossy(&whole_input()?)) {
+        Ok(card) => println!("{}", second::judge::judge(&card)),
+        Err(line) => println!("{line}"),
+    }
     Ok(())
 }
 

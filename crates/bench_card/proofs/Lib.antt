@@ -1,0 +1,10 @@
+pub mod Lists
+pub mod Writes
+pub mod Records
+pub mod Commands
+pub mod Verdicts
+pub mod Pigeon
+pub mod Silent
+pub mod Theorem
+pub mod Samples
+pub mod FirstWords
