@@ -1,4 +1,6 @@
 // How many values an access answers beside its number: a refusal has as many zeros.
+#![tactic(auto)]
+
 ghost use Rattle.std.specs.Prelude.{◌≡◌, ◌≤◌};
 ghost use Rattle.channel_calls.specs.Answers.{setting_values, memory_values, status_values, read_values, receive_values, transmit_values, channel_values};
 ghost use Rattle.module.specs.Perform.{wide_values, values};

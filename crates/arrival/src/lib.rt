@@ -1,4 +1,6 @@
 // What becomes of an arriving word, by the settings, the match set, its mailbox and the receive FIFO.
+#![tactic(auto)]
+
 ghost use Rattle.std.specs.Prelude.{◌≡◌};
 ghost use Rattle.block.specs.Ranges.{Usable};
 ghost use Rattle.arrival.specs.Arrival.{filtered, listed, arrival};

@@ -3,6 +3,8 @@
 // The async words are lent as 32-bit numbers, step and word in turn; a step with no word behind it is no write. The recorded outputs are lent as
 // four 32-bit numbers each, `form x y z`, with the step forms 2, 3, 4 and 6 and their values as `schedule::values` gives them; fewer numbers at the
 // end are an output in none of the forms. Of the RAMs the first 512 and 256 words count.
+#![tactic(auto)]
+
 ghost use Rattle.std.specs.Prelude.{◌≡◌, ◌*◌, ◌≤◌, length, take, drop};
 ghost use Rattle.schedule.specs.Output.{values};
 ghost use Rattle.bench_card.specs.Bench.{RamsWhole, bench};

@@ -1,4 +1,6 @@
 // One bit of a word: its weight, and the word with another value in its place.
+#![tactic(auto)]
+
 ghost use Rattle.std.specs.Prelude.{◌≡◌, ◌<◌, ◌≤◌, ◌^◌};
 ghost use Rattle.bits.specs.Bits.{with_bit};
 

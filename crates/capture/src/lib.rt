@@ -1,4 +1,6 @@
 // Capture files: records of arrivals and schedule images, read from lent bytes and written to them.
+#![tactic(auto)]
+
 pub mod kinds;
 pub mod reading;
 pub mod writing;

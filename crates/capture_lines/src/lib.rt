@@ -1,4 +1,6 @@
 // The numbers of a line that tells what stands at an offset of a capture.
+#![tactic(auto)]
+
 ghost use Rattle.capture_lines.specs.Lines.{line_of, Lists};
 
 use capture::kinds::ARRIVAL;

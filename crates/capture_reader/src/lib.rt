@@ -1,4 +1,6 @@
 // A reader of a capture: it holds the bytes and the offset of the next record.
+#![tactic(auto)]
+
 ghost use Rattle.std.specs.Prelude.{◌≡◌, length};
 ghost use Rattle.capture.specs.Read.{seen_at, read_at, lent_after};
 ghost use Rattle.capture_reader.specs.Moved.{moved};

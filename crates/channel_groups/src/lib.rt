@@ -1,4 +1,6 @@
 // What each accepted call on a channel does to its block and answers, group by group, before the rule runs.
+#![tactic(auto)]
+
 pub mod memory_calls;
 pub mod read_calls;
 pub mod receive_calls;

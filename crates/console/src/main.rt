@@ -1,6 +1,8 @@
 // Readings for an instructor. The argument is the file of the label list: numbers separated by blanks and line ends, `LABEL KIND DIVISOR` in
 // turn, the label in octal, the others decimal. Standard input has a line for each word: `WORD`, hexadecimal, is read; `WORD VALUE`, with a
 // whole decimal number, is encoded. One line is written for each.
+#![tactic(auto)]
+
 ghost use Rattle.std.specs.Prelude.{◌≡◌, T};
 ghost use Rattle.std.specs.Float.Ieee as Ieee;
 ghost use Rattle.std.specs.Float.{binary64};

@@ -1,6 +1,8 @@
 // Why wasn't it there? The arguments are COUNT, the number of channels, and PLACE, the place of an arrival in the list, from 1. Standard input
 // has the call items since power-up, as `replay` takes them. Two lines are written: the answer's number, the reason and what stands beside it;
 // and one sentence.
+#![tactic(auto)]
+
 ghost use Rattle.std.specs.Prelude.{◌≡◌};
 ghost use Rattle.explain.specs.Number.{number_in};
 

@@ -1,4 +1,6 @@
 // The C interface: the words that a module needs, one call item performed on lent memory, the fields of a word, readings, capture files, and the version.
+#![tactic(auto)]
+
 pub mod captures;
 pub mod reading_words;
 pub mod version;

@@ -1,4 +1,6 @@
 // An access from the four words of an item: the op, the channel and two arguments. A word that an op does not use is ignored.
+#![tactic(auto)]
+
 ghost use Rattle.std.specs.Prelude.{◌≡◌};
 ghost use Rattle.items.specs.Items.{wide_of, switch_of, setting_of, setting_item, receive_of, match_of, transmit_of, ram_of, test_of, status_of, read_of, channel_of, register_item, decoded};
 

@@ -1,5 +1,7 @@
 // Judges a bench card. Standard input has the parity, the words of both RAMs, one to a line, and then lines `async STEP WORD` and `out FORM X Y Z`, as
 // `card_text` reads them. One line is written: the verdict, or what is wrong with the first wrong line.
+#![tactic(auto)]
+
 use bench_card::Verdict;
 use card_text::faults::Fault;
 use card_text::judging::Answer;

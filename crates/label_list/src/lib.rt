@@ -1,2 +1,4 @@
 // The label list that a site supplies.
+#![tactic(auto)]
+
 pub mod entries;

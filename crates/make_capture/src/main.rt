@@ -1,6 +1,8 @@
 // Makes a capture of a session. Standard input has call items of 16 bytes, as `replay` takes them, performed on a module of twelve channels at
 // most whose memory starts as all zeros. Standard output gets a record for each accepted arrival, whatever its outcome, with its channel and
 // word and the stamp at that moment.
+#![tactic(auto)]
+
 ghost use Rattle.std.specs.Prelude.{◌≡◌, ◌+◌, ◌/◌, ◌≤◌, length, replicate};
 ghost use Rattle.calls.specs.Performed.{item_after};
 ghost use Rattle.frame.specs.Layout.{need, most};

@@ -1,4 +1,6 @@
 // Power-up: fills the module part and the blocks of the asked channels.
+#![tactic(auto)]
+
 ghost use Rattle.std.specs.Prelude.{◌≡◌, ◌++◌, ◌≤◌, length, take, drop, replicate};
 ghost use Rattle.block.specs.Layout.{word};
 ghost use Rattle.settings.specs.Factory.{nonzero_to_factory};

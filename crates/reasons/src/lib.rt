@@ -1,4 +1,6 @@
 // "Why wasn't it there?": the reason of one arrival in a list of calls since power-up (paper 02, (viii)).
+#![tactic(auto)]
+
 ghost use Rattle.std.specs.Prelude.{◌≡◌, length};
 ghost use Rattle.frame.specs.Layout.{need};
 ghost use Rattle.reasons.specs.Question.{Asked};

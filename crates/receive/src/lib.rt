@@ -1,4 +1,6 @@
 // The receive side of a channel's block: an arriving word, stored as was decided, and what it signals.
+#![tactic(auto)]
+
 ghost use Rattle.std.specs.Prelude.{◌≡◌, ◌<◌, ◌≤◌};
 ghost use Rattle.ring.specs.Ring.{slots};
 ghost use Rattle.ring.specs.Entry.{fields};

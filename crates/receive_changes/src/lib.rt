@@ -1,4 +1,6 @@
 // What an access does to the receive FIFO of one channel, by its answer and the receive mode before it.
+#![tactic(auto)]
+
 ghost use Rattle.std.specs.Prelude.{◌≡◌};
 ghost use Rattle.channel_calls.specs.Answers.{is_refused};
 ghost use Rattle.receive_changes.specs.Changes.{left, by_setting, by_settings, by_test, by_outcome, by_arrival, by_read, by_receive, on_called, by_call, by_access};

@@ -1,4 +1,6 @@
 // The reads of the receive FIFO and of a mailbox.
+#![tactic(auto)]
+
 ghost use Rattle.std.specs.Prelude.{◌≡◌, ◌<◌};
 ghost use Rattle.ring.specs.Entry.{fields};
 ghost use Rattle.block.specs.Layout.{word, receive_level, indexes};

@@ -1,4 +1,6 @@
 // Records the arrivals of a session: each item is performed as it is in a session, and an accepted arrival leaves a record.
+#![tactic(auto)]
+
 ghost use Rattle.std.specs.Prelude.{◌≡◌, ◌+◌, ◌≤◌, length};
 ghost use Rattle.calls.specs.Performed.{item_after};
 ghost use Rattle.sessions.specs.Sessions.{item_bytes, item_at};

@@ -1,5 +1,7 @@
 // Performs a list of calls on a module of twelve channels at most, whose memory starts as all zeros. Standard input has items of 16 bytes:
 // the words op, channel, a and b, lowest byte first. One line is written for each: the answer's number and its values.
+#![tactic(auto)]
+
 ghost use Rattle.std.specs.Prelude.{◌≡◌, ◌+◌, ◌/◌, ◌≤◌, length, replicate};
 ghost use Rattle.calls.specs.Performed.{item_after};
 ghost use Rattle.frame.specs.Layout.{need, most};

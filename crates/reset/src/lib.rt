@@ -1,4 +1,6 @@
 // Module reset: every channel's block, and then the module part.
+#![tactic(auto)]
+
 ghost use Rattle.std.specs.Prelude.{◌≡◌, ◌≤◌, length};
 ghost use Rattle.block.specs.Layout.{word};
 ghost use Rattle.frame.specs.Layout.{count, need, Framed, with_block};

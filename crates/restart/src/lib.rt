@@ -1,4 +1,6 @@
 // The initiated test of a channel, and a channel's part of a module reset.
+#![tactic(auto)]
+
 ghost use Rattle.std.specs.Prelude.{◌≡◌};
 ghost use Rattle.block.specs.Layout.{Whole};
 ghost use Rattle.restart.specs.Tests.{fifos_cleared, tested, block_reset};

@@ -1,6 +1,8 @@
 // First-in, first-out rings of 255 slots in a lent block of words: the receive FIFO's entries are three words, the transmit FIFO's one.
 // A ring starts at the word `at`. Its position (the slot of the oldest entry) and its level (how many entries it holds) stand elsewhere
 // in the block: the caller passes them and stores them.
+#![tactic(auto)]
+
 ghost use Rattle.std.specs.Prelude.{◌≡◌, [], ◌∷◌, ◌≤◌, ◌<◌, length};
 ghost use Rattle.ring.specs.Ring.{slots, appended, oldest, next, end, triples, singles};
 ghost use Rattle.ring.specs.Entry.{fields};

@@ -1,5 +1,7 @@
 // One command of a transmit schedule, by value: from where the schedule stands, the command and the message RAM's word to one output and
 // where the schedule then stands. Every function takes any number; the last one reads command and word from the two RAMs.
+#![tactic(auto)]
+
 ghost use Rattle.std.specs.Prelude.{◌≡◌, ◌<◌, ◌≤◌, length};
 ghost use Rattle.schedule.specs.Codes.{message_address, messages};
 ghost use Rattle.schedule.specs.Output.{values};
@@ -61,7 +63,7 @@ pub enum Output {
 
 // Where a schedule stands: the transmitter's state, the address of the next command, whether an async word waits (0 or 1), that word, and
 // whether the last thing that the schedule sent was a message word (0 or 1).
-#[derive(Drop)]
+#[derive(Clone, Copy)]
 pub struct Place {
     pub state: u32,
     pub address: u32,

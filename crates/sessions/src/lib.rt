@@ -1,4 +1,6 @@
 // A session is a list of call items as bytes, one after another: the words op, channel, a and b, lowest byte first.
+#![tactic(auto)]
+
 ghost use Rattle.std.specs.Prelude.{◌≡◌, ◌+◌, ◌≤◌, length};
 ghost use Rattle.calls.specs.Listed.{Lists};
 ghost use Rattle.calls.specs.Performed.{item_numbers, item_after};

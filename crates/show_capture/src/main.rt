@@ -1,6 +1,8 @@
 // Shows a capture. Standard input has its bytes, of any length. One line is written for each record, all numbers decimal:
 // `0 KIND NEXT CHANNEL WORD STAMP` for an arrival, `0 KIND NEXT CHANNEL` and the commands as they fill the lent words for an image; and last
 // `0 0 OFFSET` at the end, or `NUMBER 0 OFFSET` at a bad record.
+#![tactic(auto)]
+
 ghost use Rattle.std.specs.Prelude.{◌≡◌, ◌+◌, ◌≤◌, length};
 ghost use Rattle.capture.specs.Format.{lent_words};
 ghost use Rattle.show_capture.specs.Moved.{number, Moved, Within, Holds};

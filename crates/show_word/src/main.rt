@@ -1,5 +1,7 @@
 // Shows ARINC 429 words taken apart. Standard input has them in hexadecimal, one to a line, as `word_text::hex_word` reads a line. A line of blanks
 // alone is passed over, and one that is no word is named by its number.
+#![tactic(auto)]
+
 ghost use Rattle.std.specs.Prelude.{◌≤◌, length};
 
 use libc::{STDIN_FILENO, STDOUT_FILENO};

@@ -1,2 +1,4 @@
 // Faults and status of a channel: the conditions and the rule on its block.
+#![tactic(auto)]
+
 pub mod rule;

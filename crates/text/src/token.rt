@@ -8,7 +8,7 @@ use crate::bytes;
 pub const GREATEST: u32 = 4_294_967_295;
 
 // A token as far as it was read.
-#[derive(Drop)]
+#[derive(Clone, Copy)]
 pub struct Token {
     pub begun: bool,
     pub wrong: bool,

@@ -1,4 +1,6 @@
 // Three channels in one lent memory: words arrive on the first and are read, a schedule runs on the second, the third overruns.
+#![tactic(auto)]
+
 use arrival::Arrival;
 use block::layout::WORDS;
 use block::modes::{CIRCULAR, SCHEDULED};

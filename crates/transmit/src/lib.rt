@@ -1,2 +1,4 @@
 // A channel's transmitter, on the channel's block: one step.
+#![tactic(auto)]
+
 pub mod step;

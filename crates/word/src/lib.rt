@@ -1,5 +1,7 @@
 // The ARINC 429 word: what stands in its 32 bits, its parity, and the null time between words.
 // ARINC bit 1 is D0, bit 32 is D31. Every function takes any number.
+#![tactic(auto)]
+
 pub mod fields;
 mod labels;
 

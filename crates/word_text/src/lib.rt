@@ -1,4 +1,6 @@
 // Words as text, as people write them in hexadecimal: what a line says. Every function takes any bytes.
+#![tactic(auto)]
+
 ghost use Rattle.std.specs.Prelude.{◌≡◌};
 ghost use Rattle.word_text.specs.Text.{blanks, digits, hex_value, prefix, word_of, behind_blanks, hex_word};
 

@@ -1,0 +1,16 @@
+-- `label_list::entries::find` meets its contract: the entries from `at` on have the same first entry for the label.
+-- Assumes nothing.
+use mathlib.Core.Path.{◌≡◌, refl, sym, ◌∙◌}
+use Prim.Native.Nat.{◌≤◌, ◌-◌}
+use native.Mathlib.Omega.{arith}
+use lib.ListN.{length, drop}
+use Rattle.label_list.specs.Entries.{entry_for}
+use Rattle.label_list.proofs.Lists.{one_found, one_other, none_left}
+use borrow.Author.Rules.{rules}
+use Rattle.label_list.proofs.entries.find.Given as goal
+
+abbrev pub invariant-loop-at : goal.invariant-loop-at
+invariant-loop-at l = (l.at ≤ length l.list) × (entry_for l.label (drop l.at l.list) ≡ entry_for l.label l.list)
+
+abbrev pub decreases-loop-at : goal.decreases-loop-at
+decreases-loop-at l = length l.list - l.at
