@@ -1,0 +1,22 @@
+-- `settings::writing::write_refusal` meets its contract: each branch is a case of the definition.
+-- Assumes nothing.
+use Rattle.word.proofs.Branches.{branches}
+use Rattle.settings.specs.Settings.{setting_refusal}
+use borrow.Author.Rules.{rules}
+use Rattle.settings.proofs.writing.write_refusal.Goals as goal
+
+pub returns-then-value-block : goal.returns-then-value-block
+unfolding setting_refusal
+returns-then-value-block c = search (branches, ← c.in_range.ensures, c.if-in_range.true)
+
+pub returns-then-setting-eq-RECEIVE_SIZE : goal.returns-then-setting-eq-RECEIVE_SIZE
+unfolding setting_refusal
+returns-then-setting-eq-RECEIVE_SIZE c = search (branches, ← c.in_range.ensures, c.if-in_range.true)
+
+pub returns-then-in_range : goal.returns-then-in_range
+unfolding setting_refusal
+returns-then-in_range c = search (branches, ← c.in_range.ensures, c.if-in_range.true)
+
+pub returns : goal.returns
+unfolding setting_refusal
+returns c = search (branches, ← c.in_range.ensures, c.if-in_range.false)

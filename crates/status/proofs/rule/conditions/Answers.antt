@@ -1,0 +1,10 @@
+-- `status::rule::conditions` meets its contract: four terms, each from what its call ensures.
+-- Assumes nothing.
+use Rattle.status.specs.Status.{conditions}
+use native.Mathlib.Omega.{arith}
+use borrow.Author.Rules.{rules}
+use Rattle.status.proofs.rule.conditions.Goals as goal
+
+pub returns : goal.returns
+unfolding conditions
+returns c = record { value = cc; bound = omega arith }
