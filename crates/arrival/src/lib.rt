@@ -13,7 +13,7 @@ use fifos::mailboxes::NEW;
 
 // What became of an arriving word: ignored with the receiver off; not in the match set; appended; dropped by a full bounded FIFO; appended
 // over the oldest of a full circular FIFO; its index, in mailbox mode, not appended again while its mailbox is new.
-#[derive(Drop)]
+#[derive(Clone, Copy)]
 pub enum Arrival {
     Ignored,
     Filtered,

@@ -1,0 +1,11 @@
+-- `channel_groups::status_calls::show` meets its contract: each call from what its callee ensures.
+-- Assumes nothing.
+use mathlib.Core.Path.{refl}
+use borrow.Author.Rules.{rules}
+use Rattle.channel_groups.proofs.status_calls.show.Goals as goal
+
+pub returns-in-ReadStatus : goal.returns-in-ReadStatus
+returns-in-ReadStatus c = rw c.in-ReadStatus.is refl
+
+pub returns-in-ReadPending : goal.returns-in-ReadPending
+returns-in-ReadPending c = cc

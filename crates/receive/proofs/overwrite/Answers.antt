@@ -1,0 +1,20 @@
+-- `receive::overwrite` meets its contract, from what the ring's functions and the wrapping add ensure.
+-- Assumes nothing.
+use Rattle.std.proofs.Common.{arith, length-set, rules}
+use Rattle.fifos.proofs.Bounds.{bounds}
+use Rattle.receive.proofs.overwrite.Goals as goal
+
+pub append3-requires : goal.append3-requires
+append3-requires c = let h = bounds c.requires in omega arith
+
+pub next-requires : goal.next-requires
+next-requires c = let h = bounds c.requires in omega arith
+
+pub returns : goal.returns
+returns c = cc
+
+pub bounds-block-24-2 : goal.bounds-block-24-2
+bounds-block-24-2 c = simp length-set (omega arith)
+
+pub bounds-block-27-2 : goal.bounds-block-27-2
+bounds-block-27-2 c = simp length-set (omega arith)
