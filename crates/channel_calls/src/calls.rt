@@ -3,7 +3,7 @@ use arrival::Arrival;
 use schedule::Output;
 
 // The twelve settings, in the order of their numbers.
-#[derive(Drop)]
+#[derive(Clone, Copy)]
 pub enum Setting {
     Receiver,
     Transmitter,
@@ -19,14 +19,14 @@ pub enum Setting {
     Rate,
 }
 
-#[derive(Drop)]
+#[derive(Clone, Copy)]
 pub enum SettingCall {
     // A setting and its value.
     WriteSetting(Setting, u32),
     ReadSetting(Setting),
 }
 
-#[derive(Drop)]
+#[derive(Clone, Copy)]
 pub enum MemoryCall {
     // An SDI/Label index, and 1 to put it in or 0 to take it out.
     WriteMatch(u32, u32),
@@ -39,7 +39,7 @@ pub enum MemoryCall {
     ReadMessage(u32),
 }
 
-#[derive(Drop)]
+#[derive(Clone, Copy)]
 pub enum StatusCall {
     // The latched conditions.
     ReadStatus,
@@ -53,7 +53,7 @@ pub enum StatusCall {
     ReadPending,
 }
 
-#[derive(Drop)]
+#[derive(Clone, Copy)]
 pub enum TestCall {
     // A background sample's result: 0 good, 1 failing.
     Sample(u32),
@@ -63,7 +63,7 @@ pub enum TestCall {
     InitiateTest(u32),
 }
 
-#[derive(Drop)]
+#[derive(Clone, Copy)]
 pub enum ReadCall {
     ReadCounts,
     ReadReceiveLevel,
@@ -71,7 +71,7 @@ pub enum ReadCall {
     ReadAsync,
 }
 
-#[derive(Drop)]
+#[derive(Clone, Copy)]
 pub enum ReceiveCall {
     // A word arrives.
     Arrive(u32),
@@ -80,7 +80,7 @@ pub enum ReceiveCall {
     ReadMailbox(u32),
 }
 
-#[derive(Drop)]
+#[derive(Clone, Copy)]
 pub enum TransmitCall {
     WriteFifo(u32),
     WriteAsync(u32),
@@ -90,7 +90,7 @@ pub enum TransmitCall {
     Step,
 }
 
-#[derive(Drop)]
+#[derive(Clone, Copy)]
 pub enum ChannelCall {
     Settings(SettingCall),
     Memories(MemoryCall),

@@ -16,7 +16,7 @@ pub read_mailbox-entry-requires : goal.read_mailbox-entry-requires
 read_mailbox-entry-requires c = (c.requires.0, omega (arith, not_above last_index _ 3 (rw c.in-ReadMailbox.is at c.requires.1)))
 
 pub returns-in-Arrive : goal.returns-in-Arrive
-returns-in-Arrive c = rw c.in-Arrive.is (record { answer = ap Arrived c.arrive-arrived.ensures.arrival; signal = c.arrive-arrived.ensures.signal.0; after = c.arrive-arrived.ensures.signal.1 })
+returns-in-Arrive c = rw c.in-Arrive.is (record { answer = ap Arrived c.arrive-arrived.ensures.arrival; signal = c.arrive-arrived.ensures.signal; after = c.arrive-arrived.ensures.after })
 
 pub returns-in-ReadFifo : goal.returns-in-ReadFifo
 returns-in-ReadFifo c = rw c.in-ReadFifo.is (record { answer = ap entry_answer c.read_fifo-entry.ensures.entry; signal = refl; after = c.read_fifo-entry.ensures.after })

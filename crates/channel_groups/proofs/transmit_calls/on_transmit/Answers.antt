@@ -27,4 +27,4 @@ pub returns-in-Stop : goal.returns-in-Stop
 returns-in-Stop c = rw c.in-Stop.is (record { answer = c.done-in-Stop.ensures.answer; signal = c.done-in-Stop.ensures.signal; after = c.stop.ensures })
 
 pub returns-in-Step : goal.returns-in-Step
-returns-in-Step c = rw c.in-Step.is (record { answer = ap Stepped c.step-stepped.ensures.output; signal = c.step-stepped.ensures.signal.0; after = c.step-stepped.ensures.signal.1 })
+returns-in-Step c = rw c.in-Step.is (record { answer = ap Stepped c.step-stepped.ensures.output; signal = c.step-stepped.ensures.signal; after = c.step-stepped.ensures.after })
