@@ -34,7 +34,7 @@ const PAUSE: u32 = 0x1004;
 const STOP: u32 = 0x1008;
 
 // What a channel mask asks of its channels.
-#[derive(Drop)]
+#[derive(Clone, Copy)]
 pub enum Control {
     TriggerEach,
     PauseEach,

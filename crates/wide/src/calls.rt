@@ -11,7 +11,7 @@ pub enum WideCall {
     ReadThreshold,
 }
 
-#[derive(Drop)]
+#[derive(Clone, Copy)]
 pub enum WideEffect {
     // A word of the module part, which is the answer's value.
     Shows(usize),

@@ -9,7 +9,7 @@ use Rattle.power.proofs.start_part.Goals as goal
 
 pub shape_of-mem : goal.shape_of-mem
 shape_of-mem c = let start = c.args in
-    c.fill_part.auto.0 ∙ length-set (set start.mem.now count start.count) layout layout_number ∙ length-set start.mem.now count start.count
+    c.fill_part.auto.mem ∙ length-set (set start.mem.now count start.count) layout layout_number ∙ length-set start.mem.now count start.count
 
 pub returns : goal.returns
 returns c = let start = c.args in

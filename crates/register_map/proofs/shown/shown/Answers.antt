@@ -1,0 +1,15 @@
+-- `register_map::shown::shown` meets its contract: each answer is a case of the definition.
+-- Assumes nothing.
+use mathlib.Core.Path.{refl, ap}
+use borrow.Author.Rules.{rules}
+use Rattle.channel_calls.specs.declared.calls.Answer.TheVariants.{Value}
+use Rattle.register_map.proofs.shown.shown.Goals as goal
+
+pub returns-in-Refused : goal.returns-in-Refused
+returns-in-Refused c = rw c.in-Refused.is refl
+
+pub returns-in-Value : goal.returns-in-Value
+returns-in-Value c = rw c.in-Value.is (ap Value c.bits_of.ensures)
+
+pub returns-in-Waiting : goal.returns-in-Waiting
+returns-in-Waiting c = rw c.in-Waiting.is (ap Value c.bits_of-in-Waiting.ensures)

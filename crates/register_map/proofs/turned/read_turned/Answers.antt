@@ -1,0 +1,14 @@
+-- `register_map::turned::read_turned` meets its contract: each branch is a case of the definition.
+-- Assumes nothing.
+use borrow.Author.Rules.{rules}
+use Rattle.word.proofs.Branches.{branches}
+use Rattle.register_map.specs.Turned.{read_turned}
+use Rattle.register_map.proofs.turned.read_turned.Goals as goal
+
+pub returns-then-address-ne0 : goal.returns-then-address-ne0
+unfolding read_turned
+returns-then-address-ne0 c = search branches
+
+pub returns : goal.returns
+unfolding read_turned
+returns c = search (branches, c.read_of.ensures, c.register_at.ensures)
