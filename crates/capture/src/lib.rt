@@ -6,7 +6,7 @@ pub mod reading;
 pub mod writing;
 
 // A place in capture bytes, by value.
-#[derive(Drop)]
+#[derive(Clone, Copy)]
 pub struct Cursor {
     pub offset: usize,
 }
