@@ -13,10 +13,10 @@ pub loop-count-init : goal.loop-count-init
 loop-count-init c = (omega arith, omega arith, taken_none _)
 
 pub returns-then-count-eq8 : goal.returns-then-count-eq8
-returns-then-count-eq8 c = taken-eight _ c.loop-count.count c.loop-count.value c.loop-count.invariant.2 c.loop-count-test.true c.if-count-eq8.true
+returns-then-count-eq8 c = let both = taken-eight _ c.loop-count.count c.loop-count.value c.loop-count.invariant.2 c.loop-count-test.true c.if-count-eq8.true in record { count = both.0; value = both.1 }
 
 pub returns-then-next-eq-NO_DIGIT : goal.returns-then-next-eq-NO_DIGIT
-returns-then-next-eq-NO_DIGIT c = taken_off _ c.loop-count.count c.loop-count.value c.loop-count.invariant.2 c.loop-count-test.true (sym c.digit-next.ensures ∙ c.if-next-eq-NO_DIGIT.true)
+returns-then-next-eq-NO_DIGIT c = let both = taken_off _ c.loop-count.count c.loop-count.value c.loop-count.invariant.2 c.loop-count-test.true (sym c.digit-next.ensures ∙ c.if-next-eq-NO_DIGIT.true) in record { count = both.0; value = both.1 }
 
 pub overflow_mul-value : goal.overflow_mul-value
 overflow_mul-value c = omega (arith, room c.loop-count.count c.loop-count.value c.loop-count.invariant.2.most (omega arith))
@@ -37,4 +37,4 @@ loop-count-preserved c = let byte = get_or c.args.text.now c.loop-count.count 0 
     )
 
 pub returns : goal.returns
-returns c = taken_all_lem _ c.loop-count.count c.loop-count.value c.loop-count.invariant.2 c.loop-count-test.false
+returns c = let both = taken_all_lem _ c.loop-count.count c.loop-count.value c.loop-count.invariant.2 c.loop-count-test.false in record { count = both.0; value = both.1 }
