@@ -10,7 +10,6 @@ use Rattle.word.proofs.Branches.{branches}
 use Rattle.reading_fields.specs.Signs.{minus}
 use Rattle.reading_fields.specs.Bits.{half}
 use Rattle.readings.specs.Encoding.{binary_encoded}
-use borrow.Author.Rules.{rules}
 use Rattle.readings.proofs.encoding.binary_encoded.Goals as goal
 
 pub returns-then-is_minus : goal.returns-then-is_minus

@@ -11,7 +11,6 @@ use Rattle.reading_fields.specs.Signs.{minus}
 use Rattle.reading_fields.specs.Digits.{lower, greatest_decimal}
 use Rattle.readings.specs.Encoding.{decimal_encoded}
 use Rattle.reading_fields.proofs.Decimal.{field_below}
-use borrow.Author.Rules.{rules}
 use Rattle.readings.proofs.encoding.decimal_encoded.Goals as goal
 
 pub returns-then-size-gt-GREATEST : goal.returns-then-size-gt-GREATEST

@@ -3,7 +3,6 @@
 use mir.Facts.{to_z-of_z}
 use Rattle.word.proofs.Branches.{branches}
 use Rattle.readings.specs.Encoding.{encoded}
-use borrow.Author.Rules.{rules}
 use Rattle.readings.proofs.encoding.encode.Goals as goal
 
 pub returns-then-list_wrong : goal.returns-then-list_wrong

@@ -3,7 +3,6 @@
 use mir.Facts.{to_z-of_z}
 use Rattle.word.proofs.Branches.{branches}
 use Rattle.readings.specs.Encoding.{encoded_by}
-use borrow.Author.Rules.{rules}
 use Rattle.readings.proofs.encoding.encoded_by.Goals as goal
 
 pub returns-then-kind-eq-BINARY : goal.returns-then-kind-eq-BINARY

@@ -12,7 +12,6 @@ use Rattle.reading_fields.specs.Bits.{field, sign, plus, minus_sign}
 use Rattle.reading_fields.specs.Digits.{lower, digit_above9}
 use Rattle.readings.specs.Reading.{decimal_whole}
 use Rattle.reading_fields.proofs.Decimal.{digits_le}
-use borrow.Author.Rules.{rules}
 use Rattle.readings.proofs.reading.decimal_whole.Goals as goal
 
 pub returns-then-digit_above_9 : goal.returns-then-digit_above_9

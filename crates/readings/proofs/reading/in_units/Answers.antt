@@ -2,7 +2,6 @@
 -- Assumes nothing.
 use mir.Facts.{to_z-of_z}
 use Rattle.readings.specs.Reading.{in_units}
-use borrow.Author.Rules.{rules}
 use Rattle.readings.proofs.reading.in_units.Goals as goal
 
 pub returns : goal.returns

@@ -1,7 +1,6 @@
 -- `readings::reading::kind_of` meets its contract, case by case.
 -- Assumes nothing.
 use Rattle.readings.specs.Reading.{kind_of}
-use borrow.Author.Rules.{rules}
 use Rattle.readings.proofs.reading.kind_of.Goals as goal
 
 pub returns-in-Binary : goal.returns-in-Binary

@@ -1,7 +1,6 @@
 -- `readings::reading::number_of` meets its contract, case by case.
 -- Assumes nothing.
 use Rattle.readings.specs.Reading.{number_of}
-use borrow.Author.Rules.{rules}
 use Rattle.readings.proofs.reading.number_of.Goals as goal
 
 pub returns-in-Binary : goal.returns-in-Binary

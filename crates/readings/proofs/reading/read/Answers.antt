@@ -2,7 +2,6 @@
 -- Assumes nothing.
 use Rattle.word.proofs.Branches.{branches}
 use Rattle.readings.specs.Reading.{reading}
-use borrow.Author.Rules.{rules}
 use Rattle.readings.proofs.reading.read.Goals as goal
 
 pub returns-then-list_wrong : goal.returns-then-list_wrong

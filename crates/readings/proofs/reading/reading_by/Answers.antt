@@ -4,7 +4,6 @@ use mir.Facts.{to_z-of_z}
 use borrow.Author.Rules.{sfits_of}
 use Rattle.word.proofs.Branches.{branches}
 use Rattle.readings.specs.Reading.{reading_by}
-use borrow.Author.Rules.{rules}
 use Rattle.readings.proofs.reading.reading_by.Goals as goal
 
 pub returns-then-whole-eq0 : goal.returns-then-whole-eq0

@@ -3,7 +3,6 @@
 use mir.Facts.{to_z-of_z}
 use Rattle.word.proofs.Branches.{branches}
 use Rattle.readings.specs.Reading.{shown}
-use borrow.Author.Rules.{rules}
 use Rattle.readings.proofs.reading.shown.Goals as goal
 
 pub returns-then-entry-eq-BINARY : goal.returns-then-entry-eq-BINARY

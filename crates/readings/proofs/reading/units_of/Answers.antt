@@ -3,7 +3,6 @@
 use mir.Facts.{to_z-of_z}
 use borrow.Author.Rules.{sfits_of}
 use Rattle.readings.specs.Reading.{units_of}
-use borrow.Author.Rules.{rules}
 use Rattle.readings.proofs.reading.units_of.Goals as goal
 
 pub returns-in-Binary : goal.returns-in-Binary

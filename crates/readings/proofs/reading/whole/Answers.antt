@@ -2,7 +2,6 @@
 -- Assumes nothing.
 use Rattle.word.proofs.Branches.{branches}
 use Rattle.readings.specs.Reading.{whole}
-use borrow.Author.Rules.{rules}
 use Rattle.readings.proofs.reading.whole.Goals as goal
 
 pub returns-then-list_wrong : goal.returns-then-list_wrong

@@ -9,7 +9,6 @@ use mir.Facts.{to_z-of_z, to_z_pos}
 use Rattle.word.proofs.Branches.{branches}
 use Rattle.reading_fields.specs.Bits.{field}
 use Rattle.readings.specs.Reading.{whole_by}
-use borrow.Author.Rules.{rules}
 use Rattle.readings.proofs.reading.whole_by.Goals as goal
 
 pub returns-then-kind-eq-BINARY : goal.returns-then-kind-eq-BINARY

@@ -6,7 +6,6 @@ use lib.IntN.{nat_abs}
 use mir.Syntax.{w64}
 use mir.Facts.{to_z-of_z}
 use Rattle.reading_fields.proofs.Whole.{turned, kept, cast, size_minus, size_plus}
-use borrow.Author.Rules.{rules}
 use Rattle.readings.proofs.units.size.Goals as goal
 
 pub overflow_cast-result : goal.overflow_cast-result
