@@ -1,10 +1,9 @@
 -- `bench_card::agrees` meets its contract: fewer than four numbers are no output, and four agree one by one.
 -- Assumes nothing.
-use mathlib.Core.Path.{◌≡◌, sym, ap, ◌∙◌}
+use mathlib.Core.Path.{sym, ap, ◌∙◌}
 use lib.ListN.{length}
 use Rattle.word.proofs.Branches.{branches}
 use Rattle.bench_card.proofs.Records.{values_length, whole, cut}
-use borrow.Author.Rules.{rules}
 use Rattle.bench_card.proofs.agrees.Goals as goal
 
 pub returns-then-outputs-at-lt-NUMBERS : goal.returns-then-outputs-at-lt-NUMBERS

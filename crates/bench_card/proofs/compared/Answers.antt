@@ -1,15 +1,10 @@
 -- `bench_card::compared` meets its contract: what is said from the output at `number` on is what is said of the whole record.
 -- Assumes nothing.
-use mathlib.Core.Path.{◌≡◌, refl, sym, ap, ◌∙◌}
-use Prim.Native.Nat.{◌≤◌, ◌+◌, ◌*◌, ◌-◌}
+use mathlib.Core.Path.{refl, sym, ap, ◌∙◌}
 use native.Mathlib.Omega.{arith}
-use lib.ListN.{length, drop}
-use borrow.Author.Rules.{rules}
-use borrow.Author.Tests.{not_true, not_false}
-use Rattle.schedule.specs.Codes.{commands, last}
+use Rattle.schedule.specs.Codes.{commands}
 use Rattle.bench_card.specs.Bench.{bench, first_step}
-use Rattle.bench_card.specs.Record.{numbers, recorded}
-use Rattle.bench_card.specs.Verdict.{verdict_on}
+use Rattle.bench_card.specs.Record.{recorded}
 use Rattle.bench_card.proofs.Commands.{behind_address, behind_step}
 use Rattle.bench_card.proofs.Verdicts.{said_from, yes_at, nothing-at, differs_at, agrees_at}
 use Rattle.bench_card.proofs.compared.Goals as goal
@@ -28,22 +23,20 @@ returns-in_default c = let args = c.args in
 pub returns-then-not-agrees : goal.returns-then-not-agrees
 returns-then-not-agrees c = let args = c.args in
     let b = bench args.schedule.now args.ram.now args.parity args.asyncs.now in
-    let due = c.due-1.given in
     sym (differs_at b args.outputs.now c.loop-at.number c.loop-at.step c.loop-at.at c.loop-at.place c.loop-at-test.true
-    due.0.0 due.0.1.0 due.0.1.1.0 (sym c.next_output.ensures ∙ due.1)
-    (sym c.agrees.ensures ∙ not_true _ c.if-not-agrees.true)) ∙ c.loop-at.invariant.3
+    c.in-Sent.due c.in-Sent.after c.in-Sent.behind (sym c.next_output.ensures ∙ c.in-Sent.is)
+    (sym c.agrees.ensures ∙ c.if-not-agrees.true)) ∙ c.loop-at.invariant.3
 
 pub loop-at-preserved : goal.loop-at-preserved
 loop-at-preserved c = let args = c.args in
     let b = bench args.schedule.now args.ram.now args.parity args.asyncs.now in
-    let due = c.due-1.given in
-    let e = sym c.next_output.ensures ∙ due.1 in (
-      behind_address b commands c.loop-at.step c.loop-at.place c.loop-at.invariant.0 due.0.0 due.0.1.0 due.0.1.1.0 e,
-      omega (arith, behind_step b commands c.loop-at.step c.loop-at.place c.loop-at.invariant.0 due.0.0 due.0.1.0 due.0.1.1.0 e),
+    let e = sym c.next_output.ensures ∙ c.in-Sent.is in (
+      behind_address b commands c.loop-at.step c.loop-at.place c.loop-at.invariant.0 c.in-Sent.due c.in-Sent.after c.in-Sent.behind e,
+      omega (arith, behind_step b commands c.loop-at.step c.loop-at.place c.loop-at.invariant.0 c.in-Sent.due c.in-Sent.after c.in-Sent.behind e),
       omega arith,
       sym (agrees_at b args.outputs.now c.loop-at.number c.loop-at.step c.loop-at.at c.loop-at.place
-          c.loop-at-test.true due.0.0 due.0.1.0 due.0.1.1.0 e
-          (sym c.agrees.ensures ∙ not_false _ c.if-not-agrees.false)) ∙ c.loop-at.invariant.3,
+          c.loop-at-test.true c.in-Sent.due c.in-Sent.after c.in-Sent.behind e
+          (sym c.agrees.ensures ∙ c.if-not-agrees.false)) ∙ c.loop-at.invariant.3,
     )
 
 pub returns : goal.returns

@@ -1,17 +1,13 @@
 -- `bench_card::compared` meets its contract: what is said from the output at `number` on is what is said of the whole record.
 -- Assumes nothing.
-use mathlib.Core.Path.{◌≡◌, refl, sym, ap, ◌∙◌}
+use mathlib.Core.Path.{◌≡◌}
 use Prim.Native.Nat.{◌≤◌, ◌+◌, ◌*◌, ◌-◌}
-use native.Mathlib.Omega.{arith}
 use lib.ListN.{length, drop}
-use borrow.Author.Rules.{rules}
-use borrow.Author.Tests.{not_true, not_false}
 use Rattle.schedule.specs.Codes.{commands, last}
-use Rattle.bench_card.specs.Bench.{bench, first_step}
+use Rattle.bench_card.specs.Bench.{bench}
 use Rattle.bench_card.specs.Record.{numbers, recorded}
 use Rattle.bench_card.specs.Verdict.{verdict_on}
-use Rattle.bench_card.proofs.Commands.{behind_address, behind_step}
-use Rattle.bench_card.proofs.Verdicts.{said_from, yes_at, nothing-at, differs_at, agrees_at}
+use Rattle.bench_card.proofs.Verdicts.{said_from}
 use Rattle.bench_card.proofs.compared.Given as goal
 
 -- the record is passed four numbers at a time, and each output takes at most so many steps as there are commands

@@ -1,10 +1,8 @@
 -- `bench_card::judge` meets its contract: each refusal is a case of the definition, and then the record is compared.
 -- Assumes nothing.
-use mathlib.Core.Path.{◌≡◌}
 use native.Mathlib.Omega.{arith}
 use Prim.Native.Nat.{◌<◌, ◌≤◌}
 use lib.ListN.{length}
-use borrow.Author.Rules.{rules}
 use Rattle.word.proofs.Branches.{branches}
 use Rattle.bench_card.specs.Record.{recorded}
 use Rattle.bench_card.specs.Verdict.{verdict, most}

@@ -1,12 +1,9 @@
 -- `bench_card::asyncs::before` meets its contract: the writes from `at` on give what the whole list gives.
 -- Assumes nothing.
-use mathlib.Core.Path.{◌≡◌, refl, sym, ap, ◌∙◌}
-use Prim.Native.Nat.{◌≤◌, ◌-◌, ◌+◌}
-use native.Mathlib.Omega.{arith}
+use mathlib.Core.Path.{◌≡◌}
+use Prim.Native.Nat.{◌≤◌, ◌-◌}
 use lib.ListN.{length, drop}
-use borrow.Author.Rules.{rules}
 use Rattle.bench_card.specs.Asyncs.{before}
-use Rattle.bench_card.proofs.Writes.{before-next, before_end}
 use Rattle.bench_card.proofs.asyncs.before.Given as goal
 
 abbrev pub invariant-loop-at : goal.invariant-loop-at

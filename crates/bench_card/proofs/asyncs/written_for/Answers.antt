@@ -2,7 +2,6 @@
 -- Assumes nothing.
 use Rattle.word.proofs.Branches.{branches}
 use Rattle.bench_card.specs.Asyncs.{written_for}
-use borrow.Author.Rules.{rules}
 use Rattle.bench_card.proofs.asyncs.written_for.Goals as goal
 
 pub returns-then-own-step : goal.returns-then-own-step

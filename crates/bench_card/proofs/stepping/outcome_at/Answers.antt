@@ -1,9 +1,7 @@
 -- `bench_card::stepping::outcome_at` meets its contract: the command is that of the schedule, behind the writes for its step.
 -- Assumes nothing.
-use mathlib.Core.Path.{◌≡◌, refl, ap, ◌∙◌}
+use mathlib.Core.Path.{ap}
 use native.Mathlib.Omega.{arith}
-use Prim.Native.Nat.{◌<◌, ◌≤◌}
-use lib.ListN.{length}
 use borrow.Author.Rules.{rules}
 use Rattle.bench_card.specs.Run.{outcome_at}
 use Rattle.bench_card.proofs.Writes.{before_address}
