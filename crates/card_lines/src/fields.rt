@@ -35,7 +35,7 @@ pub struct Ended {
 }
 
 // The field that is being read, as a word and as a number; `inside` where it has begun.
-#[derive(Drop)]
+#[derive(Clone, Copy)]
 pub struct Reading {
     pub inside: bool,
     pub word: Line,

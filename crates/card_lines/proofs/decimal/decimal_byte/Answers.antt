@@ -2,7 +2,6 @@
 -- Assumes nothing.
 use Rattle.word.proofs.Branches.{branches}
 use Rattle.card_lines.specs.Decimal.{decimal_byte}
-use borrow.Author.Rules.{rules}
 use Rattle.card_lines.proofs.decimal.decimal_byte.Goals as goal
 
 pub returns-then-at : goal.returns-then-at

@@ -2,7 +2,6 @@
 -- Assumes nothing.
 use Rattle.word.proofs.Branches.{branches}
 use Rattle.card_lines.specs.Fields.{as_number}
-use borrow.Author.Rules.{rules}
 use Rattle.card_lines.proofs.fields.as_number.Goals as goal
 
 pub returns-then-number : goal.returns-then-number

@@ -1,7 +1,5 @@
 -- `card_lines::fields::as_word` meets its contract: each case of what a line asks for is a case of the definition.
 -- Assumes nothing.
-use mathlib.Core.Path.{refl}
-use borrow.Author.Rules.{rules}
 use Rattle.card_lines.proofs.fields.as_word.Goals as goal
 
 pub returns-in-Read : goal.returns-in-Read

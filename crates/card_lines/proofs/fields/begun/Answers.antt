@@ -1,7 +1,5 @@
 -- `card_lines::fields::begun` meets its contract: no field yet.
 -- Assumes nothing.
-use mathlib.Core.Path.{refl}
-use borrow.Author.Rules.{rules}
 use Rattle.card_lines.proofs.fields.begun.Goals as goal
 
 pub returns : goal.returns

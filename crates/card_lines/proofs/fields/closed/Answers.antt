@@ -2,7 +2,6 @@
 -- Assumes nothing.
 use Rattle.word.proofs.Branches.{branches}
 use Rattle.card_lines.specs.Fields.{closed}
-use borrow.Author.Rules.{rules}
 use Rattle.card_lines.proofs.fields.closed.Goals as goal
 
 pub returns-then-reading : goal.returns-then-reading

@@ -1,10 +1,8 @@
 -- `card_lines::fields::entry_of` meets its contract: each branch is a case of the definition.
 -- Assumes nothing.
 use Rattle.word.proofs.Branches.{branches}
-use mathlib.Core.Path.{refl}
 use borrow.Author.Tests.{eq-eqb, ne_eqb}
 use Rattle.card_lines.specs.Fields.{entry_of, async_name, out_name}
-use borrow.Author.Rules.{rules}
 use Rattle.card_lines.proofs.fields.entry_of.Goals as goal
 
 pub returns-then-fields-eq0 : goal.returns-then-fields-eq0

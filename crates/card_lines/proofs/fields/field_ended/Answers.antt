@@ -1,7 +1,5 @@
 -- `card_lines::fields::field_ended` meets its contract: each case of the value is a case of the definition.
 -- Assumes nothing.
-use mathlib.Core.Path.{refl}
-use borrow.Author.Rules.{rules}
 use Rattle.card_lines.proofs.fields.field_ended.Goals as goal
 
 pub returns-in-Number : goal.returns-in-Number

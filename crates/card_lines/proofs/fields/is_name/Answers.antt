@@ -2,7 +2,6 @@
 -- Assumes nothing.
 use Rattle.word.proofs.Branches.{branches}
 use Rattle.card_lines.specs.Fields.{is_name}
-use borrow.Author.Rules.{rules}
 use Rattle.card_lines.proofs.fields.is_name.Goals as goal
 
 pub returns-then-name-eq-ASYNC : goal.returns-then-name-eq-ASYNC

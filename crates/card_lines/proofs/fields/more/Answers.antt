@@ -2,7 +2,6 @@
 -- Assumes nothing.
 use Rattle.word.proofs.Branches.{branches}
 use Rattle.card_lines.specs.Fields.{more}
-use borrow.Author.Rules.{rules}
 use Rattle.card_lines.proofs.fields.more.Goals as goal
 
 pub returns-then-count-lt-TOO_MANY : goal.returns-then-count-lt-TOO_MANY

@@ -2,7 +2,6 @@
 -- Assumes nothing.
 use Rattle.word.proofs.Branches.{branches}
 use Rattle.card_lines.specs.Fields.{name_byte}
-use borrow.Author.Rules.{rules}
 use Rattle.card_lines.proofs.fields.name_byte.Goals as goal
 
 pub returns-then-ended-eq0 : goal.returns-then-ended-eq0

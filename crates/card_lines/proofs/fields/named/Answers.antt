@@ -2,7 +2,6 @@
 -- Assumes nothing.
 use Rattle.word.proofs.Branches.{branches}
 use Rattle.card_lines.specs.Fields.{named}
-use borrow.Author.Rules.{rules}
 use Rattle.card_lines.proofs.fields.named.Goals as goal
 
 pub returns-then-name-lt-LONG : goal.returns-then-name-lt-LONG

@@ -1,7 +1,5 @@
 -- `card_lines::fields::reading_byte` meets its contract: the byte is read both ways.
 -- Assumes nothing.
-use mathlib.Core.Path.{refl}
-use borrow.Author.Rules.{rules}
 use Rattle.card_lines.proofs.fields.reading_byte.Goals as goal
 
 pub returns : goal.returns

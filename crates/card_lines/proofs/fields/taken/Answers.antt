@@ -2,7 +2,6 @@
 -- Assumes nothing.
 use Rattle.word.proofs.Branches.{branches}
 use Rattle.card_lines.specs.Fields.{taken}
-use borrow.Author.Rules.{rules}
 use Rattle.card_lines.proofs.fields.taken.Goals as goal
 
 pub returns-then-is_blank : goal.returns-then-is_blank

@@ -2,7 +2,6 @@
 -- Assumes nothing.
 use Rattle.word.proofs.Branches.{branches}
 use Rattle.card_lines.specs.Fields.{unvalued}
-use borrow.Author.Rules.{rules}
 use Rattle.card_lines.proofs.fields.unvalued.Goals as goal
 
 pub returns-then-ended-eq0 : goal.returns-then-ended-eq0

@@ -2,7 +2,6 @@
 -- Assumes nothing.
 use Rattle.word.proofs.Branches.{branches}
 use Rattle.card_lines.specs.Fields.{value_of}
-use borrow.Author.Rules.{rules}
 use Rattle.card_lines.proofs.fields.value_of.Goals as goal
 
 pub returns-then-takes_word : goal.returns-then-takes_word

@@ -1,7 +1,5 @@
 -- `card_lines::fields::valued` meets its contract: the count grows, and the numbers move up.
 -- Assumes nothing.
-use mathlib.Core.Path.{refl}
-use borrow.Author.Rules.{rules}
 use Rattle.card_lines.proofs.fields.valued.Goals as goal
 
 pub returns : goal.returns
