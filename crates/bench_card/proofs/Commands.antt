@@ -2,7 +2,6 @@
 -- Assumes nothing.
 use mathlib.Core.Path.{◌≡◌, refl, ap, subst}
 use mathlib.Core.Bool.{Bool, true, false, cond}
-use mathlib.Core.List.{List}
 use Prim.Native.Nat.{ℕ, zero, suc, ◌+◌, ◌-◌, ◌≤◌, ◌<◌}
 use native.Mathlib.Omega.{arith}
 use borrow.Author.Tests.{eq-eqb, ne_eqb}
@@ -11,13 +10,11 @@ use lib.ListN.{get_or}
 use Rattle.schedule.specs.Codes.{running, last, message_address}
 use Rattle.schedule.specs.Schedule.{step_at}
 use Rattle.schedule.specs.declared.Place.{Place}
-use Rattle.schedule.specs.declared.Outcome.{Outcome}
 use Rattle.schedule.specs.declared.Output.{Output}
 use Rattle.schedule.proofs.Laws.{step_address}
 use Rattle.bench_card.specs.Bench.{Bench}
 use Rattle.bench_card.specs.Asyncs.{before}
 use Rattle.bench_card.specs.Run.{outcome_at, sends, next_output}
-use Rattle.bench_card.specs.declared.stepping.Next.{Next}
 use Rattle.bench_card.specs.declared.stepping.Next.TheVariants.{Sent, Ended}
 use Rattle.bench_card.proofs.Writes.{before_address}
 

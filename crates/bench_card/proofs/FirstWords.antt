@@ -1,23 +1,21 @@
 -- Of the RAMs the first 512 and 256 words count.
 -- Assumes nothing.
-use mathlib.Core.Path.{◌≡◌, refl, sym, ap, subst, ◌∙◌}
-use mathlib.Core.Bool.{Bool, true, false, cond}
-use mathlib.Core.List.{List, [], ◌∷◌, ◌++◌}
-use Prim.Native.Nat.{ℕ, zero, suc, ◌+◌, ◌%◌, ◌≤◌, ◌<◌}
+use mathlib.Core.Path.{◌≡◌, refl, ap, ◌∙◌}
+use mathlib.Core.Bool.{cond}
+use mathlib.Core.List.{List, ◌∷◌, ◌++◌}
+use Prim.Native.Nat.{ℕ, zero, suc, ◌+◌, ◌≤◌, ◌<◌}
 use native.Mathlib.Omega.{arith}
-use lib.Dec.{eqb, ltb}
+use lib.Dec.{eqb}
 use lib.ListN.{length, get_or, length-append, get_or-append}
 use borrow.Author.Tests.{le-ltb}
 use Rattle.schedule.specs.Codes.{running, commands, messages, last, message_address}
 use Rattle.schedule.specs.Schedule.{stepped, step_at}
 use Rattle.schedule.specs.declared.Place.{Place}
-use Rattle.schedule.specs.declared.Outcome.{Outcome}
-use Rattle.schedule.specs.declared.Output.{Output}
 use Rattle.bench_card.specs.Bench.{Bench, bench, start, first_step}
 use Rattle.bench_card.specs.Asyncs.{before}
 use Rattle.bench_card.specs.Run.{outcome_at, sends, next_output, followed, dues}
 use Rattle.bench_card.specs.Record.{recorded}
-use Rattle.bench_card.specs.Verdict.{most, compared, verdict_on, verdict}
+use Rattle.bench_card.specs.Verdict.{verdict}
 use Rattle.bench_card.specs.Rules.{FirstWordsCount}
 use Rattle.bench_card.specs.declared.stepping.Next.{Next}
 use Rattle.bench_card.specs.declared.stepping.Next.TheVariants.{Sent, Ended}

@@ -2,8 +2,7 @@
 -- Assumes nothing.
 use mathlib.Core.Path.{◌≡◌, refl, sym, ap, subst, ◌∙◌}
 use mathlib.Core.Bool.{Bool, true, false, cond, true≢false}
-use mathlib.Core.List.{List}
-use Prim.Native.Nat.{ℕ, zero, suc, ◌+◌, ◌-◌, ◌%◌, ◌≤◌, ◌<◌}
+use Prim.Native.Nat.{ℕ, zero, suc, ◌+◌, ◌-◌, ◌≤◌, ◌<◌}
 use native.Mathlib.Decide.{dec_lt}
 use native.Mathlib.Omega.{arith}
 use lib.Dec.{eqb, ltb, leb}
@@ -11,12 +10,11 @@ use lib.ListN.{get_or}
 use borrow.Author.Tests.{eq-eqb, eqb-true, ne_eqb, leb-false, lt-ltb, ltb-true}
 use Rattle.word.specs.Gap.{clamped}
 use Rattle.word.specs.Parity.{as_sent}
-use Rattle.schedule.specs.Codes.{idle, running, paused, code, target, stop, message, gap, fixed_gap, pause, interrupt, jump, commands, last, async_gap, async_part, message_address}
-use Rattle.schedule.specs.Schedule.{at, onward, async_sent, marked, gives, message_step, gap_step, reserved_step, jump_step, command_step, stepped, step_at}
+use Rattle.schedule.specs.Codes.{running, paused, code, target, stop, message, gap, fixed_gap, pause, interrupt, jump, commands, last, async_gap, message_address}
+use Rattle.schedule.specs.Schedule.{onward, marked, message_step, gap_step, jump_step, command_step, stepped, step_at}
 use Rattle.schedule.specs.declared.Place.{Place}
 use Rattle.schedule.specs.declared.Outcome.{Outcome}
-use Rattle.schedule.specs.declared.Output.{Output}
-use Rattle.schedule.specs.declared.Output.TheVariants.{Quiet, Message, Null, Async, Reserved, NullMessage}
+use Rattle.schedule.specs.declared.Output.TheVariants.{Quiet}
 use Rattle.bench_card.specs.Bench.{Bench}
 use Rattle.bench_card.specs.Asyncs.{before}
 use Rattle.bench_card.specs.Run.{outcome_at, sends}

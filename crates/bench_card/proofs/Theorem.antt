@@ -5,24 +5,24 @@ use mathlib.Core.Bool.{Bool, true, false, cond, true≢false}
 use mathlib.Core.List.{List, [], ◌∷◌, ◌++◌, map, append-nil}
 use Prim.Native.Nat.{ℕ, zero, suc, ◌+◌, ◌-◌, ◌≤◌, ◌<◌}
 use native.Mathlib.Omega.{arith}
-use lib.Dec.{eqb, ltb}
+use lib.Dec.{eqb}
 use lib.ListN.{length}
-use borrow.Author.Tests.{eq-eqb, eqb-true, le-ltb}
+use borrow.Author.Tests.{eqb-true, le-ltb}
 use Rattle.schedule.specs.Codes.{running, last, commands, messages}
 use Rattle.schedule.specs.Output.{values}
 use Rattle.schedule.specs.declared.Place.{Place}
 use Rattle.schedule.specs.declared.Output.{Output}
-use Rattle.bench_card.specs.Bench.{Bench, RamsWhole, start, first_step}
+use Rattle.bench_card.specs.Bench.{Bench, start, first_step}
 use Rattle.bench_card.specs.Run.{outcome_at, sends, next_output}
 use Rattle.bench_card.specs.Record.{recorded, same}
 use Rattle.bench_card.specs.Verdict.{most, verdict_on, verdict}
-use Rattle.bench_card.specs.Rules.{Gives, none, quiet, sent, Agrees, DiffersAt, NothingAt, RightFrom, Right, JudgesRightly, NoneEverWill}
+use Rattle.bench_card.specs.Rules.{Gives, none, quiet, sent, RightFrom, Right, JudgesRightly, NoneEverWill}
 use Rattle.bench_card.specs.declared.stepping.Next.{Next}
 use Rattle.bench_card.specs.declared.stepping.Next.TheVariants.{Sent, Ended}
 use Rattle.bench_card.specs.declared.Verdict.{Verdict}
 use Rattle.bench_card.specs.declared.Verdict.TheVariants.{Yes, Differs, Nothing, Refused}
 use Rattle.bench_card.proofs.Records.{alike, same_self}
-use Rattle.bench_card.proofs.Commands.{outcome_address, next-sent, next_quiet, behind_address}
+use Rattle.bench_card.proofs.Commands.{next-sent, next_quiet, behind_address}
 use Rattle.bench_card.proofs.Silent.{Leads, leads_here, leads_on, leads_below}
 use Rattle.bench_card.proofs.Verdicts.{said_from, said_yes, said-nothing, said_differs, said_agrees}
 

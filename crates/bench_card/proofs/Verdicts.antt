@@ -10,7 +10,7 @@ use Rattle.schedule.specs.Output.{values}
 use Rattle.schedule.specs.declared.Place.{Place}
 use Rattle.schedule.specs.declared.Output.{Output}
 use Rattle.bench_card.specs.Bench.{Bench}
-use Rattle.bench_card.specs.Run.{next_output, followed, dues}
+use Rattle.bench_card.specs.Run.{next_output, dues}
 use Rattle.bench_card.specs.Record.{numbers, recorded, same}
 use Rattle.bench_card.specs.Verdict.{compared}
 use Rattle.bench_card.specs.declared.stepping.Next.TheVariants.{Sent, Ended}

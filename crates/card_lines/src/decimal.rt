@@ -10,7 +10,7 @@ const GREATEST: u64 = 4_294_967_295;
 const NINE: u32 = 9;
 
 // The digits so far; `wrong` for good where they are no number of 32 bits.
-#[derive(Drop)]
+#[derive(Clone, Copy)]
 pub struct Decimal {
     pub wrong: bool,
     pub value: u32,

@@ -23,7 +23,7 @@ const TOO_LONG: u64 = 0x0200_0000_0000;
 const TOO_MANY: u32 = 6;
 
 // The fields that have ended: how many, the bytes of the first, whether one is no number, and the last four numbers.
-#[derive(Drop)]
+#[derive(Clone, Copy)]
 pub struct Ended {
     pub count: u32,
     pub name: u64,
@@ -35,7 +35,7 @@ pub struct Ended {
 }
 
 // The field that is being read, as a word and as a number; `inside` where it has begun.
-#[derive(Drop)]
+#[derive(Clone, Copy)]
 pub struct Reading {
     pub inside: bool,
     pub word: Line,
@@ -43,7 +43,7 @@ pub struct Reading {
 }
 
 // A line as far as it was read.
-#[derive(Drop)]
+#[derive(Clone, Copy)]
 pub struct Fields {
     pub ended: Ended,
     pub reading: Reading,

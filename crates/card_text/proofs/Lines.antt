@@ -1,6 +1,6 @@
 -- The lines of a text, a byte after the other.
 -- Assumes nothing.
-use Rattle.std.proofs.Common.{◌≡◌, ℕ, ◌+◌, ◌<◌, ◌≤◌, List, [], ◌∷◌, length, get_or, drop, sym, refl, ap, ◌∙◌, subst, add-one, drop_of_length-le, drop-cons}
+use Rattle.std.proofs.Common.{◌≡◌, ℕ, ◌+◌, ◌<◌, ◌≤◌, List, length, get_or, drop, ap, ◌∙◌, add-one, drop_of_length-le, drop-cons}
 use Rattle.card_lines.specs.Fields as fields
 use Rattle.card_lines.specs.declared.fields.Fields.{Fields}
 use Rattle.card_lines.specs.declared.fields.Entry.{Entry}

@@ -1,7 +1,6 @@
 -- The text of a card, a byte after the other, with the lists that it fills.
 use Rattle.std.specs.Prelude.{◌≡◌, ℕ, ◌+◌, ◌%◌, ◌^◌, cond, List, [], ◌∷◌, length, ◌==◌}
 use Rattle.card_lines.specs.Fields as fields
-use Rattle.card_lines.specs.declared.fields.Fields.{Fields}
 use Rattle.card_lines.specs.declared.fields.Entry.{Entry}
 use Rattle.card_lines.specs.declared.fields.Entry.TheVariants.{Blank, Word, Async, Out, NoEntry}
 use Rattle.card_text.specs.Card as card

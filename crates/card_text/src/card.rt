@@ -9,7 +9,7 @@ use card_lines::fields::Entry;
 pub const NO_PARITY: u32 = 2;
 
 // The parity; how many numbers are stored of words, async words and outputs; whether an async word or an output was read; and what is wrong.
-#[derive(Drop)]
+#[derive(Clone, Copy)]
 pub struct Card {
     pub parity: u32,
     pub words: usize,

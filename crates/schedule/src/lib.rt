@@ -50,7 +50,7 @@ pub const ASYNC_PART: u32 = 36;
 // What one step gives: nothing; a word of the FIFO and the gap behind it; a message's word; a null time; a gap with an async word in it,
 // that is the least gap, the word and the rest of null time; the address of a reserved command; the least gap and a message's word. The FIFO's word is no output of a schedule:
 // it stands here so that a step in any mode has one type of output.
-#[derive(Drop)]
+#[derive(Clone, Copy)]
 pub enum Output {
     Quiet,
     FifoWord(u32, u32),

@@ -21,7 +21,7 @@ const WRONG: u32 = 5;
 const WORD_DIGITS: u32 = 8;
 
 // A line as far as it was read: its place, whether `0x` or `-` was read, the digits of its field, its word, and the size of its value.
-#[derive(Drop)]
+#[derive(Clone, Copy)]
 pub struct Line {
     pub place: u32,
     pub mark: bool,

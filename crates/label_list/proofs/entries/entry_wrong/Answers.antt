@@ -2,7 +2,6 @@
 -- Assumes nothing.
 use Rattle.word.proofs.Branches.{branches}
 use Rattle.label_list.specs.Entries.{entry_wrong}
-use borrow.Author.Rules.{rules}
 use Rattle.label_list.proofs.entries.entry_wrong.Goals as goal
 
 pub returns-then-label-gt-GREATEST_LABEL : goal.returns-then-label-gt-GREATEST_LABEL

@@ -1,10 +1,7 @@
 -- `label_list::entries::find` meets its contract: the entries from `at` on have the same first entry for the label.
 -- Assumes nothing.
-use mathlib.Core.Path.{◌≡◌, refl, sym, ◌∙◌}
-use Prim.Native.Nat.{◌≤◌, ◌-◌}
+use mathlib.Core.Path.{refl, sym, ◌∙◌}
 use native.Mathlib.Omega.{arith}
-use lib.ListN.{length, drop}
-use Rattle.label_list.specs.Entries.{entry_for}
 use Rattle.label_list.proofs.Lists.{one_found, one_other, none_left}
 use borrow.Author.Rules.{rules}
 use Rattle.label_list.proofs.entries.find.Goals as goal

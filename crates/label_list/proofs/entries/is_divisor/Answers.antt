@@ -2,7 +2,6 @@
 -- Assumes nothing.
 use Rattle.word.proofs.Branches.{branches}
 use Rattle.label_list.specs.Entries.{is_divisor}
-use borrow.Author.Rules.{rules}
 use Rattle.label_list.proofs.entries.is_divisor.Goals as goal
 
 pub returns-then-divisor-gt-GREATEST_DIVISOR : goal.returns-then-divisor-gt-GREATEST_DIVISOR

@@ -1,12 +1,9 @@
 -- `label_list::entries::list_wrong` meets its contract: the entries from `at` on are wrong exactly if the list is.
 -- Assumes nothing.
-use mathlib.Core.Path.{◌≡◌, refl, sym, ◌∙◌}
+use mathlib.Core.Path.{◌≡◌}
 use Prim.Native.Nat.{◌≤◌, ◌-◌}
-use native.Mathlib.Omega.{arith}
 use lib.ListN.{length, drop}
 use Rattle.label_list.specs.Entries.{list_wrong}
-use Rattle.label_list.proofs.Lists.{one_wrong, one_right, cut_short, at_end}
-use borrow.Author.Rules.{rules}
 use Rattle.label_list.proofs.entries.list_wrong.Given as goal
 
 abbrev pub invariant-loop-at : goal.invariant-loop-at

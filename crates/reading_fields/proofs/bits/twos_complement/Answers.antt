@@ -8,7 +8,6 @@ use mir.Val.{SFits}
 use mir.Facts.{to_z-of_z, to_z_pos}
 use Rattle.word.proofs.Branches.{branches}
 use Rattle.reading_fields.specs.Bits.{twos_complement}
-use borrow.Author.Rules.{rules}
 use Rattle.reading_fields.proofs.bits.twos_complement.Goals as goal
 
 pub returns-then-field-lt-HALF : goal.returns-then-field-lt-HALF

@@ -4,7 +4,6 @@ use mathlib.Core.Path.{refl}
 use mir.Facts.{Fits-le}
 use Rattle.reading_fields.specs.Digits.{lower, of_digits}
 use Rattle.reading_fields.proofs.Decimal.{digits_le}
-use borrow.Author.Rules.{rules}
 use Rattle.reading_fields.proofs.digits.of_digits.Goals as goal
 
 pub overflow_add-result-4 : goal.overflow_add-result-4

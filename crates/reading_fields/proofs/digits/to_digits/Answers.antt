@@ -2,7 +2,6 @@
 -- Assumes nothing.
 use mathlib.Core.Path.{refl}
 use Rattle.reading_fields.specs.Digits.{to_digits}
-use borrow.Author.Rules.{rules}
 use Rattle.reading_fields.proofs.digits.to_digits.Goals as goal
 
 pub returns : goal.returns

@@ -3,7 +3,6 @@
 use mir.Syntax.{w32}
 use mir.Facts.{to_z_pos}
 use Rattle.reading_fields.proofs.Whole.{minus_fits, with_minus}
-use borrow.Author.Rules.{rules}
 use Rattle.reading_fields.proofs.signs.joined.Goals as goal
 
 pub overflow_sub-result : goal.overflow_sub-result

@@ -5,7 +5,6 @@ use lib.IntN.{nat_abs}
 use mir.Facts.{to_z-of_z}
 use mir.Syntax.{w32}
 use Rattle.reading_fields.proofs.Whole.{turned, kept, cast}
-use borrow.Author.Rules.{rules}
 use Rattle.reading_fields.proofs.signs.magnitude.Goals as goal
 
 pub overflow_cast-result : goal.overflow_cast-result

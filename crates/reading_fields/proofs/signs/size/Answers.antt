@@ -5,7 +5,6 @@ use native.Mathlib.Omega.{arith}
 use lib.Signed.{mag}
 use mir.Facts.{to_z-of_z}
 use Rattle.reading_fields.proofs.Whole.{size_minus, size_plus}
-use borrow.Author.Rules.{rules}
 use Rattle.reading_fields.proofs.signs.size.Goals as goal
 
 pub overflow_add-result : goal.overflow_add-result

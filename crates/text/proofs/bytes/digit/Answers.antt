@@ -2,7 +2,6 @@
 -- Assumes nothing.
 use Rattle.word.proofs.Branches.{branches}
 use Rattle.text.specs.Bytes.{digit_of}
-use borrow.Author.Rules.{rules}
 use Rattle.text.proofs.bytes.digit.Goals as goal
 
 pub returns-then-byte-lt48 : goal.returns-then-byte-lt48

@@ -2,7 +2,6 @@
 -- Assumes nothing.
 use Rattle.word.proofs.Branches.{branches}
 use Rattle.text.specs.Line.{asked_by}
-use borrow.Author.Rules.{rules}
 use Rattle.text.proofs.line.asked_by.Goals as goal
 
 pub returns : goal.returns

@@ -2,7 +2,6 @@
 -- Assumes nothing.
 use Rattle.word.proofs.Branches.{branches}
 use Rattle.text.specs.Line.{blanked}
-use borrow.Author.Rules.{rules}
 use Rattle.text.proofs.line.blanked.Goals as goal
 
 pub returns-then-at-eq-IN_WORD : goal.returns-then-at-eq-IN_WORD

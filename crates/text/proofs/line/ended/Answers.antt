@@ -2,7 +2,6 @@
 -- Assumes nothing.
 use Rattle.word.proofs.Branches.{branches}
 use Rattle.text.specs.Line.{ended}
-use borrow.Author.Rules.{rules}
 use Rattle.text.proofs.line.ended.Goals as goal
 
 pub returns-then-at-eq0 : goal.returns-then-at-eq0

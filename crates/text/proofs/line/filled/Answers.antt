@@ -2,7 +2,6 @@
 -- Assumes nothing.
 use Rattle.word.proofs.Branches.{branches}
 use Rattle.text.specs.Line.{filled}
-use borrow.Author.Rules.{rules}
 use Rattle.text.proofs.line.filled.Goals as goal
 
 pub returns-then-at-lt-BEHIND_WORD : goal.returns-then-at-lt-BEHIND_WORD

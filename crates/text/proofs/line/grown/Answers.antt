@@ -2,7 +2,6 @@
 -- Assumes nothing.
 use Rattle.word.proofs.Branches.{branches}
 use Rattle.text.specs.Line.{grown}
-use borrow.Author.Rules.{rules}
 use Rattle.text.proofs.line.grown.Goals as goal
 
 pub returns-then-size-lt214748364 : goal.returns-then-size-lt214748364

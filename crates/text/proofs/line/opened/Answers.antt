@@ -2,7 +2,6 @@
 -- Assumes nothing.
 use Rattle.word.proofs.Branches.{branches}
 use Rattle.text.specs.Line.{opened}
-use borrow.Author.Rules.{rules}
 use Rattle.text.proofs.line.opened.Goals as goal
 
 pub returns-then-at-eq-BEHIND_WORD : goal.returns-then-at-eq-BEHIND_WORD

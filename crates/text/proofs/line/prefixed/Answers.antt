@@ -2,7 +2,6 @@
 -- Assumes nothing.
 use Rattle.word.proofs.Branches.{branches}
 use Rattle.text.specs.Line.{prefixed}
-use borrow.Author.Rules.{rules}
 use Rattle.text.proofs.line.prefixed.Goals as goal
 
 pub returns-then-at : goal.returns-then-at

@@ -2,7 +2,6 @@
 -- Assumes nothing.
 use Rattle.word.proofs.Branches.{branches}
 use Rattle.text.specs.Line.{taken}
-use borrow.Author.Rules.{rules}
 use Rattle.text.proofs.line.taken.Goals as goal
 
 pub returns-then-is_blank : goal.returns-then-is_blank

@@ -3,7 +3,6 @@
 use borrow.Author.Tests.{eq-eqb, le-ltb}
 use Rattle.word.proofs.Branches.{branches}
 use Rattle.text.specs.Line.{value_byte}
-use borrow.Author.Rules.{rules}
 use Rattle.text.proofs.line.value_byte.Goals as goal
 
 pub returns-then-digit-lt10 : goal.returns-then-digit-lt10

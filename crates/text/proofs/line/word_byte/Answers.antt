@@ -2,7 +2,6 @@
 -- Assumes nothing.
 use Rattle.word.proofs.Branches.{branches}
 use Rattle.text.specs.Line.{word_byte}
-use borrow.Author.Rules.{rules}
 use Rattle.text.proofs.line.word_byte.Goals as goal
 
 pub returns-then-at-lt-WORD_DIGITS : goal.returns-then-at-lt-WORD_DIGITS

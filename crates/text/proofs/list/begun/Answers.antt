@@ -2,7 +2,6 @@
 -- Assumes nothing.
 use Rattle.word.proofs.Branches.{branches}
 use Rattle.text.specs.Listed.{begun_list}
-use borrow.Author.Rules.{rules}
 use Rattle.text.proofs.list.begun.Goals as goal
 
 pub returns : goal.returns

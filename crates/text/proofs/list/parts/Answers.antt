@@ -2,7 +2,6 @@
 -- Assumes nothing.
 use Rattle.word.proofs.Branches.{branches}
 use Rattle.text.specs.Listed.{parts}
-use borrow.Author.Rules.{rules}
 use Rattle.text.proofs.list.parts.Goals as goal
 
 pub returns-then-byte-eq10 : goal.returns-then-byte-eq10

@@ -2,7 +2,6 @@
 -- Assumes nothing.
 use Rattle.word.proofs.Branches.{branches}
 use Rattle.text.specs.Token.{capped}
-use borrow.Author.Rules.{rules}
 use Rattle.text.proofs.token.capped.Goals as goal
 
 pub returns-then-number-lt4294967295 : goal.returns-then-number-lt4294967295
