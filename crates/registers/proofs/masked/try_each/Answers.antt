@@ -17,20 +17,16 @@ unfolding tried_to refused_to
 loop-channel-init c = (omega arith, refl, refl, refl)
 
 -- the mask with the next channel's bit, and the memory behind it
-step : (c : goal.After-slice_known-in-loop-channel-1 invariant-loop decreases-loop) → let start = c.args in
-    (c.loop-channel.refused + c.try_on-refused.result ≡ refused_to start.control start.mask (c.loop-channel.channel + 1) start.mem.now)
-    × (c.try_on-refused.new.mem ≡ tried_to start.control start.mask (c.loop-channel.channel + 1) start.mem.now)
-step c =
-    let start = c.args in
-    next start.control start.mask _ _ _ _ _ _ c.loop-channel.invariant.2 c.loop-channel.invariant.3 c.try_on-refused.ensures.answer c.try_on-refused.ensures.after
-
 pub overflow_add-refused : goal.overflow_add-refused
 overflow_add-refused c = let start = c.args in
+    let step = next start.control start.mask _ _ _ _ _ _ c.loop-channel.invariant.2 c.loop-channel.invariant.3 c.try_on-refused.ensures.answer c.try_on-refused.ensures.after in
     let few : c.loop-channel.channel + 1 < 32 = omega arith in
-    record { fits = rw (step c).0 (lt_trans (refused_fits start.control start.mask (c.loop-channel.channel + 1) start.mem.now) (pow-lt {j = 32} few)) }
+    record { fits = rw step.0 (lt_trans (refused_fits start.control start.mask (c.loop-channel.channel + 1) start.mem.now) (pow-lt {j = 32} few)) }
 
 pub loop-channel-preserved : goal.loop-channel-preserved
-loop-channel-preserved c = (omega arith, c.try_on-refused.auto.mem ∙ c.loop-channel.invariant.1, (step c).0, (step c).1)
+loop-channel-preserved c = let start = c.args in
+    let step = next start.control start.mask _ _ _ _ _ _ c.loop-channel.invariant.2 c.loop-channel.invariant.3 c.try_on-refused.ensures.answer c.try_on-refused.ensures.after in
+    (omega arith, c.try_on-refused.auto.mem ∙ c.loop-channel.invariant.1, step.0, step.1)
 
 pub shape_of-mem : goal.shape_of-mem
 shape_of-mem c = c.loop-channel.invariant.1

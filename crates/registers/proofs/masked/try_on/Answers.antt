@@ -14,17 +14,14 @@ unfolding tried_on refused_on
 returns-then-mask-channel-eq0 c = record { answer = search branches; after = search branches }
 
 -- a named channel's bit, and the memory that its try leaves
-named : (c : goal.After-is_refused) → let c = c.args in
-    (refused_on c.control c.mask c.channel c.mem-1.now ≡ cond c.is_refused.result (2 ^ (c.channel - 1)) 0)
-    × (c.on_channel-answer.new.mem ≡ tried_on c.control c.mask c.channel c.mem-1.now)
-named c =
-    let t = tried c.args.control c.args.mask c.args.channel _ _ _ _ c.if-mask-channel-eq0.false c.control_call.ensures c.on_channel-answer.ensures.answer c.on_channel-answer.ensures.after in
-    (t.0 ∙ ap (λ (b : Bool). cond b (2 ^ (c.args.channel - 1)) 0) (sym c.is_refused.ensures), t.1)
-
 pub returns-then-is_refused : goal.returns-then-is_refused
-returns-then-is_refused c = let n = named c in
-    (record { answer = c.weight.ensures ∙ sym (rw c.if-is_refused.true at n.0); after = n.1 })
+returns-then-is_refused c =
+    let t = tried c.args.control c.args.mask c.args.channel _ _ _ _ c.if-mask-channel-eq0.false c.control_call.ensures c.on_channel-answer.ensures.answer c.on_channel-answer.ensures.after in
+    let bit = t.0 ∙ ap (λ (b : Bool). cond b (2 ^ (c.args.channel - 1)) 0) (sym c.is_refused.ensures) in
+    record { answer = c.weight.ensures ∙ sym (rw c.if-is_refused.true at bit); after = t.1 }
 
 pub returns : goal.returns
-returns c = let n = named c in
-    (record { answer = sym (rw c.if-is_refused.false at n.0); after = n.1 })
+returns c =
+    let t = tried c.args.control c.args.mask c.args.channel _ _ _ _ c.if-mask-channel-eq0.false c.control_call.ensures c.on_channel-answer.ensures.answer c.on_channel-answer.ensures.after in
+    let bit = t.0 ∙ ap (λ (b : Bool). cond b (2 ^ (c.args.channel - 1)) 0) (sym c.is_refused.ensures) in
+    record { answer = sym (rw c.if-is_refused.false at bit); after = t.1 }

@@ -8,8 +8,8 @@ returns-in-Direct c = rw c.in-Direct.is (record { answer = c.perform.ensures.ans
 
 pub returns-in-ReadRegister : goal.returns-in-ReadRegister
 returns-in-ReadRegister c = rw c.in-ReadRegister.is
-    (rw c.read_turned.ensures at (c.perform_turned.ensures.answer, c.perform_turned.ensures.after))
+    (record { answer = rw c.read_turned.ensures at c.perform_turned.ensures.answer; after = rw c.read_turned.ensures at c.perform_turned.ensures.after })
 
 pub returns-in-WriteRegister : goal.returns-in-WriteRegister
 returns-in-WriteRegister c = rw c.in-WriteRegister.is
-    (rw c.write_turned.ensures at (c.perform_turned-in-WriteRegister.ensures.answer, c.perform_turned-in-WriteRegister.ensures.after))
+    (record { answer = rw c.write_turned.ensures at c.perform_turned-in-WriteRegister.ensures.answer; after = rw c.write_turned.ensures at c.perform_turned-in-WriteRegister.ensures.after })
