@@ -105,7 +105,7 @@ fn take_all(out: &mut impl Write, line: &mut [u8], reading: Reading, text: &[u8]
     reading
 }
 
-// The loop counts its turns down, from a number that no run uses up.
+// The loop has more turns than a run uses up.
 fn main(rt: HostRuntime) -> io::Result<()> {
     let mut input = rt.stdin();
     let mut out = BufWriter::new(rt.alloc(), rt.stdout())?;
@@ -116,13 +116,13 @@ fn main(rt: HostRuntime) -> io::Result<()> {
         kept: 0,
         longer: false,
     };
-    let mut turns = u64::MAX;
-    let mut n = buffer.len();
-    while turns > 0 && n == buffer.len() {
-        n = streams::read_full(&mut input, &mut buffer);
+    for _ in 0..u64::MAX {
+        let n = streams::read_full(&mut input, &mut buffer);
         reading = take_all(&mut out, &mut line, reading, &buffer[..n]);
         streams::flush(&mut out);
-        turns -= 1;
+        if n < buffer.len() {
+            break;
+        }
     }
     end_line(&mut out, &line, reading);
     streams::flush(&mut out);
