@@ -240,7 +240,7 @@ fn show_more(
     }
 }
 
-// The loop counts its turns down, from a number that no run uses up.
+// The loop has more turns than a run uses up.
 fn show_input(
     input: &mut impl Read,
     out: &mut impl Write,
@@ -257,10 +257,11 @@ fn show_input(
         ended: false,
         long: 0,
     };
-    let mut turns = u64::MAX;
-    while turns > 0 && !held.ended {
+    for _ in 0..u64::MAX {
+        if held.ended {
+            break;
+        }
         held = show_more(input, out, bytes, held, lent, text);
-        turns -= 1;
     }
     let long = held.long;
     streams::write_all(out, &text[..long]);
