@@ -176,17 +176,17 @@ fn take_all(out: &mut impl Write, list: &[u32], input: Input, text: &[u8]) -> In
     input
 }
 
-// Answers the lines of the input; a last line without a line end counts. The loop counts its turns down, from a number that no run uses up.
+// Answers the lines of the input; a last line without a line end counts. The loop has more turns than a run uses up.
 fn answer_all(input: &mut impl Read, out: &mut impl Write, list: &[u32]) {
     let mut buffer = streams::buffer();
     let mut read = start();
-    let mut turns = u64::MAX;
-    let mut n = buffer.len();
-    while turns > 0 && n == buffer.len() {
-        n = streams::read_full(input, &mut buffer);
+    for _ in 0..u64::MAX {
+        let n = streams::read_full(input, &mut buffer);
         read = take_all(out, list, read, &buffer[..n]);
         streams::flush(out);
-        turns -= 1;
+        if n < buffer.len() {
+            break;
+        }
     }
     let line = read.line;
     if read.begun {
@@ -224,12 +224,12 @@ fn list_all(list: &mut [u32], at: Listed, text: &[u8]) -> Listed
 fn read_list(list: &mut [u32], file: &mut impl Read) -> Listed {
     let mut buffer = streams::buffer();
     let mut at = text::list::begun();
-    let mut turns = u64::MAX;
-    let mut n = buffer.len();
-    while turns > 0 && n == buffer.len() {
-        n = streams::read_full(file, &mut buffer);
+    for _ in 0..u64::MAX {
+        let n = streams::read_full(file, &mut buffer);
         at = list_all(list, at, &buffer[..n]);
-        turns -= 1;
+        if n < buffer.len() {
+            break;
+        }
     }
     text::list::stored(list, at)
 }
