@@ -89,7 +89,7 @@ fn print_answer(out: &mut impl Write, answer: Answer) {
     }
 }
 
-// The loop counts its turns down, from a number that no run uses up.
+// The loop has more turns than a run uses up.
 fn main(rt: HostRuntime) {
     let mut input = rt.stdin();
     let mut buffer = streams::buffer();
@@ -97,12 +97,12 @@ fn main(rt: HostRuntime) {
     let mut asyncs = [0u32; room::ASYNCS];
     let mut outputs = [0u32; room::OUTPUTS];
     let mut at = reading::begun();
-    let mut turns = u64::MAX;
-    let mut n = buffer.len();
-    while turns > 0 && n == buffer.len() {
-        n = streams::read_full(&mut input, &mut buffer);
+    for _ in 0..u64::MAX {
+        let n = streams::read_full(&mut input, &mut buffer);
         at = reading::text_taken(&mut words, &mut asyncs, &mut outputs, at, &buffer[..n]);
-        turns -= 1;
+        if n < buffer.len() {
+            break;
+        }
     }
     at = reading::finished(&mut words, &mut asyncs, &mut outputs, at);
     print_answer(
