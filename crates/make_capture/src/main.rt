@@ -59,11 +59,12 @@ fn record_some(input: &mut impl Read, out: &mut impl Write, mem: &mut [u32]) -> 
     n == 4096
 }
 
-// The loop counts its turns down, from a number that no run uses up.
+// The loop has more turns than a run uses up.
 fn record_input(input: &mut impl Read, out: &mut impl Write, mem: &mut [u32]) {
-    let mut turns = u64::MAX;
-    while turns > 0 && record_some(input, out, mem) {
-        turns -= 1;
+    for _ in 0..u64::MAX {
+        if !record_some(input, out, mem) {
+            break;
+        }
     }
 }
 
