@@ -9,8 +9,10 @@ ghost use Rattle.std.specs.Float.{binary64};
 ghost use Rattle.readings.specs.Units.{scaled};
 ghost use Rattle.console.specs.Labels.{base_at, listed, held};
 
-use libc::{STDERR_FILENO, STDIN_FILENO, STDOUT_FILENO};
 use readings::reading::Reading;
+use std::fs::Files;
+use std::io;
+use std::io::{BufWriter, Read, Write};
 use text::line::{Asked, Line};
 use text::list::Listed;
 
@@ -19,89 +21,91 @@ fn room() -> [u32; 49152] {
     [0; 49152]
 }
 
-fn print(text: &[u8]) {
-    io::write_all(STDOUT_FILENO, text);
+fn print(out: &mut impl Write, text: &[u8]) {
+    streams::write_all(out, text);
 }
 
-fn print_size(minus: bool, size: u64) {
+fn print_size(out: &mut impl Write, minus: bool, size: u64) {
     if minus {
-        print(b"-");
+        print(out, b"-");
     }
-    io::print_decimal(STDOUT_FILENO, size);
+    streams::print_decimal(out, size);
 }
 
 // The digits of a part below one, with the point before them; none where nothing is left.
-fn print_part(part: u32) {
+fn print_part(out: &mut impl Write, part: u32) {
     if part == 0 {
         return;
     }
-    print(b".");
+    print(out, b".");
     let mut rest = part;
     let mut left = readings::units::DIGITS;
     while 0 < left && 0 < rest {
         let next = readings::units::next(rest);
-        io::print_decimal(STDOUT_FILENO, next.digit as u64);
+        streams::print_decimal(out, next.digit as u64);
         rest = next.rest;
         left -= 1;
     }
 }
 
 // A number in units, exactly.
-fn print_units(units: f64)
+fn print_units(out: &mut impl Write, units: f64)
     requires { T (Ieee.in_signed binary64 63 (scaled units)) }
 {
     let count = readings::units::count(units);
     let size = readings::units::size(count);
     print_size(
+        out,
         readings::units::is_minus(count),
         size / readings::units::THS as u64,
     );
-    print_part((size % readings::units::THS as u64) as u32);
+    print_part(out, (size % readings::units::THS as u64) as u32);
 }
 
-fn print_refused(number: u32) {
-    print(b"refused ");
-    io::print_decimal(STDOUT_FILENO, number as u64);
+fn print_refused(out: &mut impl Write, number: u32) {
+    print(out, b"refused ");
+    streams::print_decimal(out, number as u64);
 }
 
 // What a word reads as.
-fn print_reading(list: &[u32], word: u32) {
+fn print_reading(out: &mut impl Write, list: &[u32], word: u32) {
     let reading = readings::reading::read(list, word);
     match reading {
         Reading::Binary(units) => {
-            print(b"binary ");
-            print_units(units);
+            print(out, b"binary ");
+            print_units(out, units);
         }
         Reading::Decimal(value) => {
-            print(b"decimal ");
+            print(out, b"decimal ");
             print_size(
+                out,
                 reading_fields::signs::is_minus(value),
                 reading_fields::signs::size(value) as u64,
             );
         }
         Reading::Bits(field) => {
-            print(b"bits ");
-            io::print_decimal(STDOUT_FILENO, field as u64);
+            print(out, b"bits ");
+            streams::print_decimal(out, field as u64);
         }
         Reading::Refused(number) => {
-            print_refused(number);
+            print_refused(out, number);
         }
     }
 }
 
 // The word with a value in it.
-fn print_encoded(list: &[u32], word: u32, value: i32) {
+fn print_encoded(out: &mut impl Write, list: &[u32], word: u32, value: i32) {
     let encoded = readings::encoding::encode(list, word, value);
     if encoded.number == 0 {
-        print(b"word ");
-        io::print_hex(STDOUT_FILENO, encoded.word as u64, 8);
+        print(out, b"word ");
+        streams::print_hex(out, encoded.word);
     } else {
-        print_refused(encoded.number);
+        print_refused(out, encoded.number);
     }
 }
 
 // The label in octal, three digits.
-fn print_label(word: u32) {
+fn print_label(out: &mut impl Write, word: u32) {
     let label = word::label(word);
     let digits = [
         b'0' + label / 64,
@@ -109,34 +113,35 @@ fn print_label(word: u32) {
         b'0' + label % 8,
         b' ',
     ];
-    print(&digits);
+    print(out, &digits);
 }
 
 // The line for one line of the input.
-fn answer(list: &[u32], line: Line) {
+fn answer(out: &mut impl Write, list: &[u32], line: Line) {
     let asked = text::line::asked_by(line);
     match asked {
         Asked::Read(word) => {
-            print_label(word);
-            print_reading(list, word);
+            print_label(out, word);
+            print_reading(out, list, word);
         }
         Asked::Encode(word, minus, size) => {
-            print_label(word);
+            print_label(out, word);
             print_encoded(
+                out,
                 list,
                 word,
                 reading_fields::signs::joined(minus, size % 0x8000_0000),
             );
         }
         Asked::Nothing => {
-            print(b"no word");
+            print(out, b"no word");
         }
     }
-    print(b"\n");
+    print(out, b"\n");
 }
 
 // A line as far as it was read, and whether it has begun.
-#[derive(Drop)]
+#[derive(Clone, Copy)]
 struct Input {
     line: Line,
     begun: bool,
@@ -149,10 +154,10 @@ fn start() -> Input {
     }
 }
 
-fn take(list: &[u32], input: Input, byte: u8) -> Input {
+fn take(out: &mut impl Write, list: &[u32], input: Input, byte: u8) -> Input {
     let line = input.line;
     if byte == b'\n' {
-        answer(list, line);
+        answer(out, list, line);
         return start();
     }
     Input {
@@ -161,30 +166,32 @@ fn take(list: &[u32], input: Input, byte: u8) -> Input {
     }
 }
 
-fn take_all(list: &[u32], input: Input, text: &[u8]) -> Input {
+fn take_all(out: &mut impl Write, list: &[u32], input: Input, text: &[u8]) -> Input {
     let mut input = input;
     let mut at = 0;
     while at < text.len() {
-        input = take(list, input, text[at]);
+        input = take(out, list, input, text[at]);
         at += 1;
     }
     input
 }
 
-// Answers the lines of the input; a last line without a line end counts. The loop counts its turns down, from a number that no run uses up.
-fn answer_all(list: &[u32]) {
-    let mut buffer = io::buffer();
-    let mut input = start();
-    let mut turns = u64::MAX;
-    let mut n = buffer.len();
-    while turns > 0 && n == buffer.len() {
-        n = io::read_full(STDIN_FILENO, &mut buffer);
-        input = take_all(list, input, &buffer[..n]);
-        turns -= 1;
+// Answers the lines of the input; a last line without a line end counts. The loop has more turns than a run uses up.
+fn answer_all(input: &mut impl Read, out: &mut impl Write, list: &[u32]) {
+    let mut buffer = streams::buffer();
+    let mut read = start();
+    for _ in 0..u64::MAX {
+        let n = streams::read_full(input, &mut buffer);
+        read = take_all(out, list, read, &buffer[..n]);
+        streams::flush(out);
+        if n < buffer.len() {
+            break;
+        }
     }
-    let line = input.line;
-    if input.begun {
-        answer(list, line);
+    let line = read.line;
+    if read.begun {
+        answer(out, list, line);
+        streams::flush(out);
     }
 }
 
@@ -214,43 +221,56 @@ fn list_all(list: &mut [u32], at: Listed, text: &[u8]) -> Listed
 }
 
 // The numbers of the file.
-fn read_list(list: &mut [u32], fd: i32) -> Listed {
-    let mut buffer = io::buffer();
+fn read_list(list: &mut [u32], file: &mut impl Read) -> Listed {
+    let mut buffer = streams::buffer();
     let mut at = text::list::begun();
-    let mut turns = u64::MAX;
-    let mut n = buffer.len();
-    while turns > 0 && n == buffer.len() {
-        n = io::read_full(fd, &mut buffer);
+    for _ in 0..u64::MAX {
+        let n = streams::read_full(file, &mut buffer);
         at = list_all(list, at, &buffer[..n]);
-        turns -= 1;
+        if n < buffer.len() {
+            break;
+        }
     }
     text::list::stored(list, at)
 }
 
-fn answer_by(list: &mut [u32], listed: Listed) {
+// The numbers of the file of that name, which is closed again.
+fn list_in(files: &impl Files, name: &[u8], list: &mut [u32]) -> io::Result<Listed> {
+    let mut file = streams::open(files, name)?;
+    Ok(read_list(list, &mut file))
+}
+
+fn answer_by(
+    input: &mut impl Read,
+    out: &mut impl Write,
+    errors: &mut impl Write,
+    list: &mut [u32],
+    listed: Listed,
+) {
     let count = listed.count;
     if listed.full {
-        io::write_all(
-            STDERR_FILENO,
+        streams::write_all(
+            errors,
             b"console: more than 16384 entries in the label list\n",
         );
         return;
     }
     if count <= list.len() {
-        answer_all(&list[..count]);
+        answer_all(input, out, &list[..count]);
     }
 }
 
-fn main() {
-    let mut path = io::buffer();
-    let length = os::arg(1, &mut path);
-    let fd = os::open_read(&path[..length]);
-    if fd < 0 {
-        os::fail(&path[..length]);
-        return;
-    }
+fn main(rt: HostRuntime) -> io::Result<()> {
+    let mut path = streams::buffer();
+    let length = streams::argument(&rt, 1, &mut path);
     let mut list = room();
-    let listed = read_list(&mut list, fd);
-    libc::close(fd);
-    answer_by(&mut list, listed);
+    match list_in(&rt, &path[..length], &mut list) {
+        Ok(listed) => {
+            let mut out = BufWriter::new(rt.alloc(), rt.stdout())?;
+            let mut errors = rt.stderr();
+            answer_by(&mut rt.stdin(), &mut out, &mut errors, &mut list, listed);
+        }
+        Err(error) => streams::fail(&mut rt.stderr(), &path[..length], &error),
+    }
+    Ok(())
 }

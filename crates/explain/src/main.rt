@@ -9,9 +9,10 @@ ghost use Rattle.explain.specs.Number.{number_in};
 use block::layout::WORDS;
 use following::course::Reason;
 use frame::layout::{MODULE_WORDS, MOST};
-use libc::{STDERR_FILENO, STDIN_FILENO, STDOUT_FILENO};
 use reasons::{Explained, MOST_ITEMS};
 use sessions::ITEM_BYTES;
+use std::env::Env;
+use std::io::{Read, Write};
 use text::token::Token;
 
 // The words of twelve channels.
@@ -34,9 +35,9 @@ fn number_in(text: &[u8]) -> Token
 }
 
 // An argument; one that is missing reads as an empty one.
-fn argument(index: usize) -> Token {
-    let mut buffer = io::buffer();
-    let n = os::arg(index, &mut buffer);
+fn argument(env: &impl Env, index: usize) -> Token {
+    let mut buffer = streams::buffer();
+    let n = streams::argument(env, index, &mut buffer);
     number_in(&buffer[..n])
 }
 
@@ -44,78 +45,98 @@ fn is_number(token: Token) -> bool {
     token.begun & !token.wrong
 }
 
-fn print(text: &[u8]) {
-    io::write_all(STDOUT_FILENO, text);
+fn print(out: &mut impl Write, text: &[u8]) {
+    streams::write_all(out, text);
 }
 
-fn print_name(reason: Reason) {
+fn print_name(out: &mut impl Write, reason: Reason) {
     match reason {
-        Reason::NoReason => print(b"none"),
-        Reason::RefusedBy(_) => print(b"refused"),
-        Reason::ReceiverOff => print(b"receiver-off"),
-        Reason::FilteredOut => print(b"filtered"),
-        Reason::DroppedOnFull => print(b"dropped"),
-        Reason::ListedAlready => print(b"already-listed"),
-        Reason::StillHeld => print(b"held"),
-        Reason::ReadAt(_) => print(b"read"),
-        Reason::ClearedAt(_) => print(b"cleared"),
-        Reason::OverwrittenAt(_) => print(b"overwritten"),
+        Reason::NoReason => print(out, b"none"),
+        Reason::RefusedBy(_) => print(out, b"refused"),
+        Reason::ReceiverOff => print(out, b"receiver-off"),
+        Reason::FilteredOut => print(out, b"filtered"),
+        Reason::DroppedOnFull => print(out, b"dropped"),
+        Reason::ListedAlready => print(out, b"already-listed"),
+        Reason::StillHeld => print(out, b"held"),
+        Reason::ReadAt(_) => print(out, b"read"),
+        Reason::ClearedAt(_) => print(out, b"cleared"),
+        Reason::OverwrittenAt(_) => print(out, b"overwritten"),
     }
 }
 
 // A sentence that ends in a number.
-fn print_with(text: &[u8], number: u32) {
-    print(text);
-    io::print_decimal(STDOUT_FILENO, number as u64);
-    print(b".");
+fn print_with(out: &mut impl Write, text: &[u8], number: u32) {
+    print(out, text);
+    streams::print_decimal(out, number as u64);
+    print(out, b".");
 }
 
 // What a refusal of the question means.
-fn print_refusal(number: u32) {
+fn print_refusal(out: &mut impl Write, number: u32) {
     match number {
-        1 => print(b"The working memory is too short for that many channels."),
-        4 => print(b"The channel count must be 1 to 12."),
-        40 => print(b"There is no arrival at that place of the list."),
-        41 => print(b"The list has more than 4096 calls."),
-        42 => print(b"An item of the list is no call, or the last one is cut short."),
-        _ => print_with(b"The question was refused with number ", number),
+        1 => print(
+            out,
+            b"The working memory is too short for that many channels.",
+        ),
+        4 => print(out, b"The channel count must be 1 to 12."),
+        40 => print(out, b"There is no arrival at that place of the list."),
+        41 => print(out, b"The list has more than 4096 calls."),
+        42 => print(
+            out,
+            b"An item of the list is no call, or the last one is cut short.",
+        ),
+        _ => print_with(out, b"The question was refused with number ", number),
     }
 }
 
 // What a reason means. In mailbox mode the word's entry is its index in the list.
-fn print_meaning(number: u32, reason: Reason) {
+fn print_meaning(out: &mut impl Write, number: u32, reason: Reason) {
     match reason {
-        Reason::NoReason => print_refusal(number),
-        Reason::RefusedBy(by) => print_with(b"The arrival was refused with number ", by),
+        Reason::NoReason => print_refusal(out, number),
+        Reason::RefusedBy(by) => print_with(out, b"The arrival was refused with number ", by),
         Reason::ReceiverOff => print(
+            out,
             b"The receiver of the channel was off, so the word was ignored.",
         ),
         Reason::FilteredOut => {
             print(
+                out,
                 b"Match was on and the index of the word was not in the match set, so the word was filtered out.",
             )
         }
         Reason::DroppedOnFull => {
-            print(b"The receive FIFO was full and bounded, so the entry of the word was dropped.")
+            print(
+                out,
+                b"The receive FIFO was full and bounded, so the entry of the word was dropped.",
+            )
         }
         Reason::ListedAlready => {
-            print(b"The index of the word was already listed, so it was not listed again.")
+            print(
+                out,
+                b"The index of the word was already listed, so it was not listed again.",
+            )
         }
-        Reason::StillHeld => print(b"The entry of the word is still held in the receive FIFO."),
+        Reason::StillHeld => print(
+            out,
+            b"The entry of the word is still held in the receive FIFO.",
+        ),
         Reason::ReadAt(place) => {
             print_with(
+                out,
                 b"The entry of the word was read by the call at place ",
                 place,
             )
         }
         Reason::ClearedAt(place) => {
             print_with(
+                out,
                 b"The entry of the word was cleared by the call at place ",
                 place,
             )
         }
         Reason::OverwrittenAt(place) => {
             print_with(
+                out,
                 b"The entry of the word was overwritten by the call at place ",
                 place,
             )
@@ -124,17 +145,17 @@ fn print_meaning(number: u32, reason: Reason) {
 }
 
 // The two lines of an answer.
-fn print_answer(explained: Explained) {
+fn print_answer(out: &mut impl Write, explained: Explained) {
     let number = explained.number;
     let reason = explained.reason;
-    io::print_decimal(STDOUT_FILENO, number as u64);
-    print(b" ");
-    print_name(reason);
-    print(b" ");
-    io::print_decimal(STDOUT_FILENO, reasons::beside(reason) as u64);
-    print(b"\n");
-    print_meaning(number, reason);
-    print(b"\n");
+    streams::print_decimal(out, number as u64);
+    print(out, b" ");
+    print_name(out, reason);
+    print(out, b" ");
+    streams::print_decimal(out, reasons::beside(reason) as u64);
+    print(out, b"\n");
+    print_meaning(out, number, reason);
+    print(out, b"\n");
 }
 
 // Room for the list.
@@ -148,36 +169,38 @@ fn memory() -> [u32; NEED] {
 }
 
 // Explains a list of items.
-fn explain_list(count: u32, bytes: &[u8], place: u32) {
+fn explain_list(out: &mut impl Write, count: u32, bytes: &[u8], place: u32) {
     let mut mem = memory();
-    print_answer(reasons::explain(count, bytes, place, &mut mem));
+    print_answer(out, reasons::explain(count, bytes, place, &mut mem));
 }
 
 // Explains the list on standard input.
-fn explain_input(count: u32, place: u32) {
+fn explain_input(input: &mut impl Read, out: &mut impl Write, count: u32, place: u32) {
     let mut bytes = room();
-    let n = io::read_full(STDIN_FILENO, &mut bytes);
-    explain_list(count, &bytes[..n], place);
+    let n = streams::read_full(input, &mut bytes);
+    explain_list(out, count, &bytes[..n], place);
 }
 
-fn main() {
-    let count = argument(1);
+fn main(rt: HostRuntime) {
+    let count = argument(&rt, 1);
     if !is_number(count) {
-        io::write_all(
-            STDERR_FILENO,
+        streams::write_all(
+            &mut rt.stderr(),
             b"explain: the first argument, COUNT, is no number\n",
         );
         return;
     }
-    let place = argument(2);
+    let place = argument(&rt, 2);
     if !is_number(place) {
-        io::write_all(
-            STDERR_FILENO,
+        streams::write_all(
+            &mut rt.stderr(),
             b"explain: the second argument, PLACE, is no number\n",
         );
         return;
     }
     explain_input(
+        &mut rt.stdin(),
+        &mut rt.stdout(),
         text::token::token_number(count),
         text::token::token_number(place),
     );

@@ -6,103 +6,107 @@ use bench_card::Verdict;
 use card_text::faults::Fault;
 use card_text::judging::Answer;
 use card_text::{judging, reading, room};
-use libc::{STDIN_FILENO, STDOUT_FILENO};
 use schedule::Output;
+use std::io::Write;
 
-fn print(text: &[u8]) {
-    io::write_all(STDOUT_FILENO, text);
+fn print(out: &mut impl Write, text: &[u8]) {
+    streams::write_all(out, text);
 }
 
-fn print_number(number: u64) {
-    io::print_decimal(STDOUT_FILENO, number);
+fn print_number(out: &mut impl Write, number: u64) {
+    streams::print_decimal(out, number);
 }
 
 // A number behind a blank.
-fn print_next(number: u32) {
-    print(b" ");
-    print_number(number as u64);
+fn print_next(out: &mut impl Write, number: u32) {
+    print(out, b" ");
+    print_number(out, number as u64);
 }
 
 // The four numbers of an output.
-fn print_output(output: Output) {
+fn print_output(out: &mut impl Write, output: Output) {
     let numbers = schedule::values(output);
-    print_next(numbers[0]);
-    print_next(numbers[1]);
-    print_next(numbers[2]);
-    print_next(numbers[3]);
+    print_next(out, numbers[0]);
+    print_next(out, numbers[1]);
+    print_next(out, numbers[2]);
+    print_next(out, numbers[3]);
 }
 
-fn print_verdict(verdict: Verdict) {
+fn print_verdict(out: &mut impl Write, verdict: Verdict) {
     match verdict {
         Verdict::Yes => {
-            print(b"0 yes\n");
+            print(out, b"0 yes\n");
         }
         Verdict::Differs(place, due) => {
-            print(b"0 ");
-            print_number(place as u64);
-            print_output(due);
-            print(b"\n");
+            print(out, b"0 ");
+            print_number(out, place as u64);
+            print_output(out, due);
+            print(out, b"\n");
         }
         Verdict::Nothing(place) => {
-            print(b"0 ");
-            print_number(place as u64);
-            print(b" nothing\n");
+            print(out, b"0 ");
+            print_number(out, place as u64);
+            print(out, b" nothing\n");
         }
         Verdict::Refused(number) => {
-            print_number(number as u64);
-            print(b" 0\n");
+            print_number(out, number as u64);
+            print(out, b" 0\n");
         }
     }
 }
 
 // What is wrong with a line.
-fn print_fault(fault: Fault) {
+fn print_fault(out: &mut impl Write, fault: Fault) {
     match fault {
         Fault::Fine => {}
         Fault::NoParity => {
-            print(b": no parity\n");
+            print(out, b": no parity\n");
         }
         Fault::NoWord => {
-            print(b": no word\n");
+            print(out, b": no word\n");
         }
         Fault::NoEntry => {
-            print(b": no async word and no output\n");
+            print(out, b": no async word and no output\n");
         }
         Fault::NoRoom => {
-            print(b": no room for more than ");
-            print_number(room::ASYNC_WORDS as u64);
-            print(b" async words\n");
+            print(out, b": no room for more than ");
+            print_number(out, room::ASYNC_WORDS as u64);
+            print(out, b" async words\n");
         }
     }
 }
 
-fn print_answer(answer: Answer) {
+fn print_answer(out: &mut impl Write, answer: Answer) {
     match answer {
         Answer::Wrong(fault, line) => {
-            print(b"line ");
-            print_number(line);
-            print_fault(fault);
+            print(out, b"line ");
+            print_number(out, line);
+            print_fault(out, fault);
         }
         Answer::Judged(verdict) => {
-            print_verdict(verdict);
+            print_verdict(out, verdict);
         }
     }
 }
 
-// The loop counts its turns down, from a number that no run uses up.
-fn main() {
-    let mut buffer = io::buffer();
+// The loop has more turns than a run uses up.
+fn main(rt: HostRuntime) {
+    let mut input = rt.stdin();
+    let mut buffer = streams::buffer();
     let mut words = [0u32; room::WORDS];
     let mut asyncs = [0u32; room::ASYNCS];
     let mut outputs = [0u32; room::OUTPUTS];
     let mut at = reading::begun();
-    let mut turns = u64::MAX;
-    let mut n = buffer.len();
-    while turns > 0 && n == buffer.len() {
-        n = io::read_full(STDIN_FILENO, &mut buffer);
+    for _ in 0..u64::MAX {
+        let n = streams::read_full(&mut input, &mut buffer);
         at = reading::text_taken(&mut words, &mut asyncs, &mut outputs, at, &buffer[..n]);
-        turns -= 1;
+        if n < buffer.len() {
+            break;
+        }
     }
     at = reading::finished(&mut words, &mut asyncs, &mut outputs, at);
-    print_answer(judging::answered(&words, &asyncs, &outputs, at));
+    print_answer(
+        &mut rt.stdout(),
+        judging::answered(&words, &asyncs, &outputs, at),
+    );
 }

@@ -10,8 +10,9 @@ ghost use Rattle.sessions.specs.Sessions.{item_bytes, item_at, performed};
 
 use block::layout::WORDS;
 use frame::layout::{MODULE_WORDS, MOST};
-use libc::{STDIN_FILENO, STDOUT_FILENO};
 use sessions::ITEM_BYTES;
+use std::io;
+use std::io::{BufWriter, Read, Write};
 
 // The words of twelve channels.
 const NEED: usize = MODULE_WORDS + (MOST as usize) * WORDS;
@@ -27,45 +28,49 @@ fn memory() -> [u32; NEED]
 }
 
 // Performs the item at an index and writes its record.
-fn record_at(mem: &mut [u32], bytes: &[u8], at: usize)
+fn record_at(out: &mut impl Write, mem: &mut [u32], bytes: &[u8], at: usize)
     requires { at + item_bytes ≤ length bytes.now }
     ensures { mem.new ≡ item_after (item_at bytes.now at) mem.old }
 {
-    let mut out = [0u8; RECORD];
-    let count = recorder::record_at(mem, bytes, at, &mut out);
+    let mut record = [0u8; RECORD];
+    let count = recorder::record_at(mem, bytes, at, &mut record);
     if count == RECORD {
-        io::write_all(STDOUT_FILENO, &out);
+        streams::write_all(out, &record);
     }
 }
 
 // Performs the items in order; a cut last item is no call.
-fn record_all(mem: &mut [u32], bytes: &[u8])
+fn record_all(out: &mut impl Write, mem: &mut [u32], bytes: &[u8])
     ensures { mem.new ≡ performed (length bytes.now / item_bytes) bytes.now mem.old }
 {
     let mut at = 0;
     while ITEM_BYTES <= bytes.len() - at {
-        record_at(mem, bytes, at);
+        record_at(out, mem, bytes, at);
         at += ITEM_BYTES;
     }
 }
 
 // Performs the next items, as many as the buffer holds, and answers whether more may come.
-fn record_some(mem: &mut [u32]) -> bool {
-    let mut buffer = io::buffer();
-    let n = io::read_full(STDIN_FILENO, &mut buffer);
-    record_all(mem, &buffer[..n]);
+fn record_some(input: &mut impl Read, out: &mut impl Write, mem: &mut [u32]) -> bool {
+    let mut buffer = streams::buffer();
+    let n = streams::read_full(input, &mut buffer);
+    record_all(out, mem, &buffer[..n]);
+    streams::flush(out);
     n == 4096
 }
 
-// The loop counts its turns down, from a number that no run uses up.
-fn record_input(mem: &mut [u32]) {
-    let mut turns = u64::MAX;
-    while turns > 0 && record_some(mem) {
-        turns -= 1;
+// The loop has more turns than a run uses up.
+fn record_input(input: &mut impl Read, out: &mut impl Write, mem: &mut [u32]) {
+    for _ in 0..u64::MAX {
+        if !record_some(input, out, mem) {
+            break;
+        }
     }
 }
 
-fn main() {
+fn main(rt: HostRuntime) -> io::Result<()> {
+    let mut out = BufWriter::new(rt.alloc(), rt.stdout())?;
     let mut mem = memory();
-    record_input(&mut mem);
+    record_input(&mut rt.stdin(), &mut out, &mut mem);
+    Ok(())
 }

@@ -10,8 +10,9 @@ ghost use Rattle.sessions.specs.Sessions.{item_bytes, item_at, performed};
 use block::layout::WORDS;
 use calls::perform::NO_CALL;
 use frame::layout::{MODULE_WORDS, MOST};
-use libc::{STDIN_FILENO, STDOUT_FILENO};
 use sessions::ITEM_BYTES;
+use std::io;
+use std::io::{BufWriter, Read, Write};
 
 // The words of twelve channels.
 const NEED: usize = MODULE_WORDS + (MOST as usize) * WORDS;
@@ -24,72 +25,72 @@ fn memory() -> [u32; NEED]
 }
 
 // Writes the number in a place of a line: a space parts it from the one before.
-fn put(place: usize, number: u32) {
+fn put(out: &mut impl Write, place: usize, number: u32) {
     if 0 < place {
-        io::write_all(STDOUT_FILENO, b" ");
+        streams::write_all(out, b" ");
     }
-    io::print_decimal(STDOUT_FILENO, number as u64);
+    streams::print_decimal(out, number as u64);
 }
 
-fn end_line() {
-    io::write_all(STDOUT_FILENO, b"\n");
+fn end_line(out: &mut impl Write) {
+    streams::write_all(out, b"\n");
 }
 
 // Writes the first `count` numbers as one line.
-fn show(numbers: &[u32], count: usize)
+fn show(out: &mut impl Write, numbers: &[u32], count: usize)
     requires { count ≤ length numbers.now }
 {
-    let mut at = 0;
-    while at < count {
-        put(at, numbers[at]);
-        at += 1;
+    for at in 0..count {
+        put(out, at, numbers[at]);
     }
-    end_line();
+    end_line(out);
 }
 
 // Performs the item at an index and writes its line.
-fn perform_at(mem: &mut [u32], bytes: &[u8], at: usize)
+fn perform_at(out: &mut impl Write, mem: &mut [u32], bytes: &[u8], at: usize)
     requires { at + item_bytes ≤ length bytes.now }
     ensures { mem.new ≡ item_after (item_at bytes.now at) mem.old }
 {
     let answered = sessions::perform_at(mem, bytes, at);
-    let numbers = answered.words;
-    let count = answered.count;
-    show(&numbers, count);
+    show(out, &answered.words, answered.count);
 }
 
 // Performs the items in order; a cut last item is no call.
-fn perform_all(mem: &mut [u32], bytes: &[u8])
+fn perform_all(out: &mut impl Write, mem: &mut [u32], bytes: &[u8])
     ensures { mem.new ≡ performed (length bytes.now / item_bytes) bytes.now mem.old }
 {
     let mut at = 0;
     while ITEM_BYTES <= bytes.len() - at {
-        perform_at(mem, bytes, at);
+        perform_at(out, mem, bytes, at);
         at += ITEM_BYTES;
     }
     if at < bytes.len() {
-        put(0, NO_CALL);
-        end_line();
+        put(out, 0, NO_CALL);
+        end_line(out);
     }
 }
 
 // Performs the next items, as many as the buffer holds, and answers whether more may come.
-fn perform_some(mem: &mut [u32]) -> bool {
-    let mut buffer = io::buffer();
-    let n = io::read_full(STDIN_FILENO, &mut buffer);
-    perform_all(mem, &buffer[..n]);
+fn perform_some(input: &mut impl Read, out: &mut impl Write, mem: &mut [u32]) -> bool {
+    let mut buffer = streams::buffer();
+    let n = streams::read_full(input, &mut buffer);
+    perform_all(out, mem, &buffer[..n]);
+    streams::flush(out);
     n == 4096
 }
 
-// The loop counts its turns down, from a number that no run uses up.
-fn perform_input(mem: &mut [u32]) {
-    let mut turns = u64::MAX;
-    while turns > 0 && perform_some(mem) {
-        turns -= 1;
+// The loop has more turns than a run uses up.
+fn perform_input(input: &mut impl Read, out: &mut impl Write, mem: &mut [u32]) {
+    for _ in 0..u64::MAX {
+        if !perform_some(input, out, mem) {
+            break;
+        }
     }
 }
 
-fn main() {
+fn main(rt: HostRuntime) -> io::Result<()> {
+    let mut out = BufWriter::new(rt.alloc(), rt.stdout())?;
     let mut mem = memory();
-    perform_input(&mut mem);
+    perform_input(&mut rt.stdin(), &mut out, &mut mem);
+    Ok(())
 }

@@ -9,7 +9,7 @@ ghost use Rattle.show_capture.specs.Moved.{number, Moved, Within, Holds};
 
 use capture::Cursor;
 use capture::kinds::{LENT_WORDS, LONGEST};
-use libc::{STDIN_FILENO, STDOUT_FILENO};
+use std::io::{Read, Write};
 
 // The bytes at hand: room for two of the longest records.
 const ROOM: usize = 2 * LONGEST;
@@ -21,13 +21,13 @@ const TEXT: usize = 65536;
 const NUMBER: usize = 21;
 
 // Writes the waiting text where it has no room for a number, and answers how long it is then.
-fn flushed(text: &[u8], long: usize) -> usize
+fn flushed(out: &mut impl Write, text: &[u8], long: usize) -> usize
     requires number_in_bounds { number ≤ length text.now }
     requires long_in_bounds { long ≤ length text.now }
     ensures { result + number ≤ length text.now }
 {
     if text.len() - long < NUMBER {
-        io::write_all(STDOUT_FILENO, &text[..long]);
+        streams::write_all(out, &text[..long]);
         return 0;
     }
     long
@@ -37,28 +37,25 @@ fn flushed(text: &[u8], long: usize) -> usize
 fn decimal(shown: u64, digits: &mut [u8; 20]) -> usize
     ensures { result ≤ 20 }
 {
-    let count = io::decimal(shown, digits);
-    if count < 20 { count } else { 20 }
+    streams::decimal(shown, digits)
 }
 
 fn put_digits(text: &mut [u8], at: usize, digits: &[u8; 20], count: usize)
     requires count_in_bounds { at + count ≤ length text.old }
     requires count_bound { count ≤ 20 }
 {
-    let mut i = 0;
-    while i < count {
+    for i in 0..count {
         text[at + i] = digits[i];
-        i += 1;
     }
 }
 
 // Adds a number and the character behind it to the waiting text.
-fn put(text: &mut [u8], long: usize, shown: u64, behind: u8) -> usize
+fn put(out: &mut impl Write, text: &mut [u8], long: usize, shown: u64, behind: u8) -> usize
     requires number_in_bounds { number ≤ length text.old }
     requires long_in_bounds { long ≤ length text.old }
     ensures { result ≤ length text.old }
 {
-    let at = flushed(text, long);
+    let at = flushed(out, text, long);
     let mut digits = [0u8; 20];
     let count = decimal(shown, &mut digits);
     put_digits(text, at, &digits, count);
@@ -72,7 +69,7 @@ fn behind(last: bool) -> u8 {
 }
 
 // What one reading leaves: its kind, the next offset, and how long the waiting text is.
-#[derive(Drop)]
+#[derive(Clone, Copy)]
 struct Shown {
     kind: u32,
     next: usize,
@@ -84,39 +81,49 @@ fn wide(x: u32) -> u64 {
 }
 
 // Adds the commands of an image as they fill the lent words.
-fn put_commands(text: &mut [u8], long: usize, lent: &[u32], count: usize) -> usize
+fn put_commands(
+    out: &mut impl Write,
+    text: &mut [u8],
+    long: usize,
+    lent: &[u32],
+    count: usize,
+) -> usize
     requires number_in_bounds { number ≤ length text.old }
     requires long_in_bounds { long ≤ length text.old }
     requires count_in_bounds { count ≤ length lent.now }
     ensures { result ≤ length text.old }
 {
     let mut at = long;
-    let mut i = 0;
-    while i < count {
-        at = put(text, at, wide(lent[i]), behind(i + 1 == count));
-        i += 1;
+    for i in 0..count {
+        at = put(out, text, at, wide(lent[i]), behind(i + 1 == count));
     }
     at
 }
 
 // Adds the first `count` numbers of a line; `more` says that others follow.
-fn put_numbers(text: &mut [u8], long: usize, numbers: &[u64; 6], count: usize, more: bool) -> usize
+fn put_numbers(
+    out: &mut impl Write,
+    text: &mut [u8],
+    long: usize,
+    numbers: &[u64; 6],
+    count: usize,
+    more: bool,
+) -> usize
     requires number_in_bounds { number ≤ length text.old }
     requires long_in_bounds { long ≤ length text.old }
     requires count_bound { count ≤ 6 }
     ensures { result ≤ length text.old }
 {
     let mut at = long;
-    let mut i = 0;
-    while i < count {
-        at = put(text, at, numbers[i], behind(!more && i + 1 == count));
-        i += 1;
+    for i in 0..count {
+        at = put(out, text, at, numbers[i], behind(!more && i + 1 == count));
     }
     at
 }
 
 // Reads what stands at an offset and adds its line. A record moves the offset on, and not past the end.
 fn show_at(
+    out: &mut impl Write,
     bytes: &[u8],
     at: usize,
     base: u64,
@@ -130,20 +137,20 @@ fn show_at(
     ensures { Moved (length bytes.now) (length text.old) at result }
 {
     let answer = capture::reading::read(bytes, Cursor { offset: at }, lent);
-    let next = answer.next;
+    let kind = answer.kind;
+    let next = answer.next.offset;
     let line = capture_lines::line_of(base, answer);
-    let numbers = line.numbers;
-    let count = capture::kinds::lent_of(answer.kind);
-    let told = put_numbers(text, long, &numbers, line.count, 0 < count);
+    let count = capture::kinds::lent_of(kind);
+    let told = put_numbers(out, text, long, &line.numbers, line.count, 0 < count);
     Shown {
-        kind: answer.kind,
-        next: next.offset,
-        long: put_commands(text, told, lent, count),
+        kind,
+        next,
+        long: put_commands(out, text, told, lent, count),
     }
 }
 
 // How far a run of lines went: the offset of the bytes that are left, whether the reading ended, and how long the waiting text is.
-#[derive(Drop)]
+#[derive(Clone, Copy)]
 struct Progress {
     at: usize,
     ended: bool,
@@ -152,6 +159,7 @@ struct Progress {
 
 // Adds lines while the longest record would lie within the bytes, and where these are the last ones to the end of the reading.
 fn show_some(
+    out: &mut impl Write,
     bytes: &[u8],
     last: bool,
     base: u64,
@@ -167,21 +175,21 @@ fn show_some(
     let mut at = 0;
     let mut long = waiting;
     while last || LONGEST <= bytes.len() - at {
-        let shown = show_at(bytes, at, base, lent, text, long);
+        let shown = show_at(out, bytes, at, base, lent, text, long);
         long = shown.long;
         if shown.kind == 0 {
             return Progress {
-                at: at,
+                at,
                 ended: true,
-                long: long,
+                long,
             };
         }
         at = shown.next;
     }
     Progress {
-        at: at,
+        at,
         ended: false,
-        long: long,
+        long,
     }
 }
 
@@ -190,15 +198,13 @@ fn keep_rest(bytes: &mut [u8], from: usize, to: usize)
     requires from_le_to { from ≤ to }
     requires to_in_bounds { to ≤ length bytes.old }
 {
-    let mut i = 0;
-    while i < to - from {
+    for i in 0..to - from {
         bytes[i] = bytes[from + i];
-        i += 1;
     }
 }
 
 // What is at hand between two reads of the input: so many bytes, which begin `base` bytes into the capture, and so much waiting text.
-#[derive(Drop)]
+#[derive(Clone, Copy)]
 struct Held {
     count: usize,
     base: u64,
@@ -207,27 +213,41 @@ struct Held {
 }
 
 // Reads more of the input, adds the lines of what is at hand, and keeps the rest.
-fn show_more(bytes: &mut [u8], held: Held, lent: &mut [u32], text: &mut [u8]) -> Held
+fn show_more(
+    input: &mut impl Read,
+    out: &mut impl Write,
+    bytes: &mut [u8],
+    held: Held,
+    lent: &mut [u32],
+    text: &mut [u8],
+) -> Held
     requires number_in_bounds { number ≤ length text.old }
     requires lent_len { length lent.old ≡ lent_words }
     requires holds { Holds (length bytes.old) (length text.old) held }
     ensures { Holds (length bytes.old) (length text.old) result }
 {
     let count = held.count;
-    let count = count + io::read_full(STDIN_FILENO, &mut bytes[count..]);
+    let count = count + streams::read_full(input, &mut bytes[count..]);
     let last = count < bytes.len();
-    let shown = show_some(&bytes[..count], last, held.base, lent, text, held.long);
+    let base = held.base;
+    let shown = show_some(out, &bytes[..count], last, base, lent, text, held.long);
     keep_rest(bytes, shown.at, count);
     Held {
         count: count - shown.at,
-        base: std::num::wrapping_add_u64(held.base, shown.at as u64),
+        base: base.wrapping_add(shown.at as u64),
         ended: shown.ended,
         long: shown.long,
     }
 }
 
-// The loop counts its turns down, from a number that no run uses up.
-fn show_input(bytes: &mut [u8], lent: &mut [u32], text: &mut [u8])
+// The loop has more turns than a run uses up.
+fn show_input(
+    input: &mut impl Read,
+    out: &mut impl Write,
+    bytes: &mut [u8],
+    lent: &mut [u32],
+    text: &mut [u8],
+)
     requires number_in_bounds { number ≤ length text.old }
     requires lent_len { length lent.old ≡ lent_words }
 {
@@ -237,18 +257,25 @@ fn show_input(bytes: &mut [u8], lent: &mut [u32], text: &mut [u8])
         ended: false,
         long: 0,
     };
-    let mut turns = u64::MAX;
-    while turns > 0 && !held.ended {
-        held = show_more(bytes, held, lent, text);
-        turns -= 1;
+    for _ in 0..u64::MAX {
+        if held.ended {
+            break;
+        }
+        held = show_more(input, out, bytes, held, lent, text);
     }
     let long = held.long;
-    io::write_all(STDOUT_FILENO, &text[..long]);
+    streams::write_all(out, &text[..long]);
 }
 
-fn main() {
+fn main(rt: HostRuntime) {
     let mut bytes = [0u8; ROOM];
     let mut lent = [0u32; LENT_WORDS];
     let mut text = [0u8; TEXT];
-    show_input(&mut bytes, &mut lent, &mut text);
+    show_input(
+        &mut rt.stdin(),
+        &mut rt.stdout(),
+        &mut bytes,
+        &mut lent,
+        &mut text,
+    );
 }

@@ -4,43 +4,44 @@
 
 ghost use Rattle.std.specs.Prelude.{◌≤◌, length};
 
-use libc::{STDIN_FILENO, STDOUT_FILENO};
+use std::io;
+use std::io::{BufWriter, Read, Write};
 use word_text::Line;
 
 // Writes a number in octal, three digits, as a label is listed.
-fn print_label(label: u8) {
+fn print_label(out: &mut impl Write, label: u8) {
     let digits = [b'0' + label / 64, b'0' + label / 8 % 8, b'0' + label % 8];
-    io::write_all(STDOUT_FILENO, &digits);
+    streams::write_all(out, &digits);
 }
 
 // One line: the word, its label, SDI, index and parity, and the word as it goes out with parity on.
-fn show(word: u32) {
-    io::write_all(STDOUT_FILENO, b"word ");
-    io::print_hex(STDOUT_FILENO, word as u64, 8);
-    io::write_all(STDOUT_FILENO, b"  label ");
-    print_label(word::label(word));
-    io::write_all(STDOUT_FILENO, b"  SDI ");
-    io::print_decimal(STDOUT_FILENO, word::sdi(word) as u64);
-    io::write_all(STDOUT_FILENO, b"  index ");
-    io::print_decimal(STDOUT_FILENO, word::index(word) as u64);
+fn show(out: &mut impl Write, word: u32) {
+    streams::write_all(out, b"word ");
+    streams::print_hex(out, word);
+    streams::write_all(out, b"  label ");
+    print_label(out, word::label(word));
+    streams::write_all(out, b"  SDI ");
+    streams::print_decimal(out, word::sdi(word) as u64);
+    streams::write_all(out, b"  index ");
+    streams::print_decimal(out, word::index(word) as u64);
     if word::is_in_error(word) {
-        io::write_all(STDOUT_FILENO, b"  parity error  as sent ");
+        streams::write_all(out, b"  parity error  as sent ");
     } else {
-        io::write_all(STDOUT_FILENO, b"  parity right  as sent ");
+        streams::write_all(out, b"  parity right  as sent ");
     }
-    io::print_hex(STDOUT_FILENO, word::with_odd_parity(word) as u64, 8);
-    io::write_all(STDOUT_FILENO, b"\n");
+    streams::print_hex(out, word::with_odd_parity(word));
+    streams::write_all(out, b"\n");
 }
 
-fn say_no_word(number: u64) {
-    io::write_all(STDOUT_FILENO, b"line ");
-    io::print_decimal(STDOUT_FILENO, number);
-    io::write_all(STDOUT_FILENO, b": no word\n");
+fn say_no_word(out: &mut impl Write, number: u64) {
+    streams::write_all(out, b"line ");
+    streams::print_decimal(out, number);
+    streams::write_all(out, b": no word\n");
 }
 
 // The line that is being read: its number from 1, how many of its bytes are kept, and whether it has more than there is room for: then it is no
 // word.
-#[derive(Drop)]
+#[derive(Clone, Copy)]
 struct Reading {
     number: u64,
     kept: usize,
@@ -48,30 +49,30 @@ struct Reading {
 }
 
 // The line ends here: it is shown, or named.
-fn end_line(line: &[u8], reading: Reading)
+fn end_line(out: &mut impl Write, line: &[u8], reading: Reading)
     requires { reading.kept ≤ length line.now }
 {
     let kept = reading.kept;
     if reading.longer {
-        say_no_word(reading.number);
+        say_no_word(out, reading.number);
         return;
     }
     match word_text::hex_word(&line[..kept]) {
-        Line::Word(word) => show(word),
-        Line::NoWord => say_no_word(reading.number),
+        Line::Word(word) => show(out, word),
+        Line::NoWord => say_no_word(out, reading.number),
         Line::Blank => {}
     }
 }
 
 // The next byte of the text.
-fn take(line: &mut [u8], reading: Reading, byte: u8) -> Reading
+fn take(out: &mut impl Write, line: &mut [u8], reading: Reading, byte: u8) -> Reading
     requires { reading.kept ≤ length line.old }
     ensures { result.kept ≤ length line.old }
 {
     if byte == b'\n' {
-        end_line(line, reading);
+        end_line(out, line, reading);
         return Reading {
-            number: std::num::wrapping_add_u64(reading.number, 1),
+            number: reading.number.wrapping_add(1),
             kept: 0,
             longer: false,
         };
@@ -93,34 +94,37 @@ fn take(line: &mut [u8], reading: Reading, byte: u8) -> Reading
 }
 
 // A line may go on behind the end of a part of the text.
-fn take_all(line: &mut [u8], reading: Reading, text: &[u8]) -> Reading
+fn take_all(out: &mut impl Write, line: &mut [u8], reading: Reading, text: &[u8]) -> Reading
     requires { reading.kept ≤ length line.old }
     ensures { result.kept ≤ length line.old }
 {
     let mut reading = reading;
-    let mut at = 0;
-    while at < text.len() {
-        reading = take(line, reading, text[at]);
-        at += 1;
+    for byte in text {
+        reading = take(out, line, reading, *byte);
     }
     reading
 }
 
-// The loop counts its turns down, from a number that no run uses up.
-fn main() {
-    let mut buffer = io::buffer();
+// The loop has more turns than a run uses up.
+fn main(rt: HostRuntime) -> io::Result<()> {
+    let mut input = rt.stdin();
+    let mut out = BufWriter::new(rt.alloc(), rt.stdout())?;
+    let mut buffer = streams::buffer();
     let mut line = [0; 4096];
     let mut reading = Reading {
         number: 1,
         kept: 0,
         longer: false,
     };
-    let mut turns = u64::MAX;
-    let mut n = buffer.len();
-    while turns > 0 && n == buffer.len() {
-        n = io::read_full(STDIN_FILENO, &mut buffer);
-        reading = take_all(&mut line, reading, &buffer[..n]);
-        turns -= 1;
+    for _ in 0..u64::MAX {
+        let n = streams::read_full(&mut input, &mut buffer);
+        reading = take_all(&mut out, &mut line, reading, &buffer[..n]);
+        streams::flush(&mut out);
+        if n < buffer.len() {
+            break;
+        }
     }
-    end_line(&line, reading);
+    end_line(&mut out, &line, reading);
+    streams::flush(&mut out);
+    Ok(())
 }

@@ -1,0 +1,152 @@
+// What a program reads, writes and is asked: bytes from a reader, bytes and numbers to a writer, and its arguments. No function here requires
+// anything, and none gives up: a read that fails counts as the end of the input, a write that fails as done in part, and an argument that is
+// missing as empty.
+#![tactic(auto)]
+
+ghost use Rattle.std.specs.Prelude.{◌≡◌, ◌≤◌, IsTrue, decimal as decimal_text, length, take};
+ghost use Rattle.std.specs.Io.KnownBytes.{Appends, Consumes, Keeps};
+ghost use Rattle.streams.specs.Digits.{hex_glyph, hex_text};
+
+use std::env::Env;
+use std::fs::{File, Files};
+use std::io;
+use std::io::{Cursor, Error, ErrorKind, Read, Write};
+
+// Room for a part of the input, all zeros.
+pub fn buffer() -> [u8; 4096]
+    ensures { length result ≡ 4096 }
+{
+    [0; 4096]
+}
+
+// Reads until the buffer is full, the input ends or a read fails, and answers how many bytes stand at the buffer's start.
+pub fn read_full<R: Read>(input: &mut R, buffer: &mut [u8]) -> usize
+    ensures within { result ≤ length buffer.new }
+    ensures part { result ≡ length (take result buffer.new) }
+    ensures taken { Consumes (R.remaining input.old) (R.remaining input.new) (take result buffer.new) }
+{
+    let mut done = 0;
+    while done < buffer.len() {
+        match input.read(&mut buffer[done..]) {
+            Ok(count) => {
+                if count == 0 {
+                    break;
+                }
+                done += count;
+            }
+            Err(_) => break,
+        }
+    }
+    done
+}
+
+// Writes all of the bytes and answers true, or stops at the first write that takes none or fails, with some of them written.
+pub fn write_all<W: Write>(out: &mut W, bytes: &[u8]) -> bool
+    ensures { IsTrue result → Appends (W.contents out.old) (W.contents out.new) bytes.now }
+{
+    out.write_all(bytes).is_ok()
+}
+
+// Writes what a writer holds back, and answers whether all of it went out.
+pub fn flush<W: Write>(out: &mut W) -> bool
+    ensures { Keeps (W.contents out.old) (W.contents out.new) }
+{
+    out.flush().is_ok()
+}
+
+// Puts a number's decimal digits at the start of the room, and answers how many there are.
+pub fn decimal(number: u64, digits: &mut [u8; 20]) -> usize
+    ensures within { result ≤ 20 }
+    ensures part { result ≡ length (take result digits.new) }
+    ensures text { take result digits.new ≡ decimal_text number }
+{
+    let mut buffer = itoa::Buffer::new();
+    let text = buffer.format(number).as_bytes();
+    let count = text.len();
+    digits[..count].copy_from_slice(text);
+    count
+}
+
+// Writes a number in decimal, and answers as `write_all` does.
+pub fn print_decimal<W: Write>(out: &mut W, number: u64) -> bool
+    ensures { IsTrue result → Appends (W.contents out.old) (W.contents out.new) (decimal_text number) }
+{
+    let mut buffer = itoa::Buffer::new();
+    write_all(out, buffer.format(number).as_bytes())
+}
+
+fn hex_digit(digit: u32) -> u8
+    requires { digit ≤ 15 }
+    ensures { result ≡ hex_glyph digit }
+{
+    if digit < 10 {
+        b'0' + digit as u8
+    } else {
+        b'a' - 10 + digit as u8
+    }
+}
+
+// The eight hexadecimal digits of a number, in lower case.
+pub fn hex(number: u32) -> [u8; 8]
+    ensures { result ≡ hex_text 8 number }
+{
+    let mut digits = [0u8; 8];
+    let mut rest = number;
+    let mut left = 8;
+    while left > 0 {
+        left -= 1;
+        digits[left] = hex_digit(rest % 16);
+        rest /= 16;
+    }
+    digits
+}
+
+// Writes a number in hexadecimal, all eight digits, and answers as `write_all` does.
+pub fn print_hex<W: Write>(out: &mut W, number: u32) -> bool
+    ensures { IsTrue result → Appends (W.contents out.old) (W.contents out.new) (hex_text 8 number) }
+{
+    write_all(out, &hex(number))
+}
+
+// Puts an argument at the start of the buffer and answers its length: 0 where it is missing, or longer than the buffer. Argument 0 is the
+// program's name.
+pub fn argument<E: Env>(env: &E, index: usize, buffer: &mut [u8]) -> usize
+    ensures within { result ≤ length buffer.new }
+    ensures part { result ≡ length (take result buffer.new) }
+{
+    match env.arg(index, buffer) {
+        Ok(count) => count,
+        Err(_) => 0,
+    }
+}
+
+// Opens the file of that name for reading.
+pub fn open<F: Files>(files: &F, name: &[u8]) -> io::Result<F::File> {
+    match std::str::from_utf8(name) {
+        Ok(path) => File::open(files, path),
+        Err(_) => Err(Error::new(ErrorKind::InvalidFilename, "the name is no text in UTF-8")),
+    }
+}
+
+// Writes a line: what failed, a colon and why, in the system's words, without the number that std writes behind them.
+pub fn fail<W: Write>(out: &mut W, what: &[u8], error: &Error) {
+    let mut text = Cursor::new([0u8; 256]);
+    let _ = write!(text, "{error}");
+    let count = text.position().min(256) as usize;
+    let bytes = text.into_inner();
+    write_all(out, what);
+    write_all(out, b": ");
+    write_all(out, words(&bytes[..count]));
+    write_all(out, b"\n");
+}
+
+// The words of a text before the number of the system's error.
+fn words(text: &[u8]) -> &[u8] {
+    match std::str::from_utf8(text) {
+        Ok(text) => match text.split_once(" (os error ") {
+            Some((words, _)) => words.as_bytes(),
+            None => text.as_bytes(),
+        },
+        Err(_) => text,
+    }
+}
