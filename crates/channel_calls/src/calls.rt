@@ -101,7 +101,7 @@ pub enum ChannelCall {
     Transmit(TransmitCall),
 }
 
-#[derive(Drop)]
+#[derive(Clone, Copy)]
 pub enum Answer {
     Done,
     // The number of the refusal.

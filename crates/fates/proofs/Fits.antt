@@ -122,8 +122,8 @@ channel_readable stamp (Tests ResetTest) a l = tt
 channel_readable stamp (Tests (InitiateTest x)) a l = tt
 channel_readable stamp (Reads k) a l = tt
 channel_readable stamp (Receive (Arrive w)) a l =
-    by_answer_lem AcceptsReadable tt (λ o. arrival_readable o (entry_of stamp w l) (entry_readable stamp w l)) (λ e. tt) (λ o. tt) a
-channel_readable stamp (Receive ReadFifo) a l = by_answer_lem AcceptsReadable tt (λ o. tt) (λ e. tt) (λ o. tt) a
+    by_answer_lem AcceptsReadable {entry = λ e. Stays} {stepped = λ o. Stays} tt (λ o. arrival_readable o (entry_of stamp w l) (entry_readable stamp w l)) (λ e. tt) (λ o. tt) a
+channel_readable stamp (Receive ReadFifo) a l = by_answer_lem AcceptsReadable {arrived = λ o. Stays} {entry = Takes} {stepped = λ o. Stays} tt (λ o. tt) (λ e. tt) (λ o. tt) a
 channel_readable stamp (Receive (ReadMailbox i)) a l = tt
 channel_readable stamp (Transmit (WriteFifo w)) a l = tt
 channel_readable stamp (Transmit (WriteAsync w)) a l = tt

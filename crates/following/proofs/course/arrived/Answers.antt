@@ -1,0 +1,14 @@
+-- `following::course::arrived` meets its contract: each case is one of the definition.
+-- Assumes nothing.
+use mathlib.Core.Path.{refl}
+use borrow.Author.Rules.{rules}
+use Rattle.following.proofs.course.arrived.Goals as goal
+
+pub returns-in-Coming : goal.returns-in-Coming
+returns-in-Coming c = rw (c.in-Coming.is, c.entered_with.ensures) refl
+
+pub returns-in-Waiting : goal.returns-in-Waiting
+returns-in-Waiting c = rw c.in-Waiting.is refl
+
+pub returns-in-Known : goal.returns-in-Known
+returns-in-Known c = rw c.in-Known.is refl
