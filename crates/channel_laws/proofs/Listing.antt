@@ -19,7 +19,7 @@ use Rattle.block.specs.Ranges.{Usable}
 use Rattle.fifos.specs.Fifos.{receive_offsets, transmit_offsets, fifo, entry_appended, entry_taken, Change, Stays, Clears}
 use Rattle.memories.specs.Matching.{match_at}
 use Rattle.fifos.specs.Mailboxes.{mailbox_at, new_mark, is_new, unlisted}
-use Rattle.fifos.specs.Clearing.{cleared, receive_fifo_cleared, stopped, unmarked, forgotten}
+use Rattle.fifos.specs.Clearing.{receive_fifo_cleared, stopped, unmarked, forgotten}
 use Rattle.settings.specs.Factory.{factory_settings, factory_of, settings_to_factory}
 use Rattle.settings.specs.Settings.{receive_mode_written, transmit_mode_written, transmitter_written, written}
 use Rattle.fifos.proofs.Marks.{unlist_length, unlist_before}

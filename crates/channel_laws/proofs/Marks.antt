@@ -15,7 +15,7 @@ use Rattle.word.specs.Word.{index}
 use Rattle.word.specs.Parity.{error_mark}
 use Rattle.ring.specs.Ring.{slot, slots, words, held}
 use Rattle.ring.proofs.Words.{sets_other}
-use Rattle.block.specs.Layout.{word, parity, stamps, receive_mode, receive_position, receive_ring, indexes, mailboxes, Whole}
+use Rattle.block.specs.Layout.{word, parity, stamps, receive_mode, receive_position, receive_ring, indexes, Whole}
 use Rattle.block.specs.Modes.{fifo_mode}
 use Rattle.fifos.specs.Mailboxes.{mailbox_at, new_mark, is_new, mark_taken, listed_index, marks_taken, unlisted}
 use Rattle.fifos.proofs.Marks.{marks_length, marks_before}

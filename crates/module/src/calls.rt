@@ -2,7 +2,7 @@
 use channel_calls::calls::ChannelCall;
 use wide::calls::WideCall;
 
-#[derive(Drop)]
+#[derive(Clone, Copy)]
 pub enum Call {
     // The number of channels.
     PowerUp(u32),

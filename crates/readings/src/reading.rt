@@ -16,7 +16,7 @@ pub const NO_SIGN: u32 = 62;
 pub const NO_DIGIT: u32 = 63;
 
 // A number in units, a decimal number, a bare bit field, or the number of a refusal.
-#[derive(Drop)]
+#[derive(Clone, Copy)]
 pub enum Reading {
     Binary(f64),
     Decimal(i32),

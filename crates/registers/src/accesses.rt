@@ -1,7 +1,7 @@
 // Every access to a module's memory, as a value.
 use module::calls::Call;
 
-#[derive(Drop)]
+#[derive(Clone, Copy)]
 pub enum Access {
     // A call as it is.
     Direct(Call),

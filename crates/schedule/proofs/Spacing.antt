@@ -3,14 +3,14 @@
 use mathlib.Core.Path.{◌≡◌, refl, sym, subst}
 use mathlib.Core.Bool.{Bool, true, false, cond}
 use mathlib.Core.List.{List, [], ◌∷◌, ◌++◌}
-use Prim.Native.Nat.{ℕ, ◌+◌, ◌-◌, ◌≤◌}
+use Prim.Native.Nat.{ℕ, ◌-◌, ◌≤◌}
 use native.Mathlib.Omega.{arith}
 use borrow.Author.Tests.{eqb-true, ltb-false}
 use lib.Dec.{eqb, leb, ltb}
 use Rattle.word.specs.Gap.{least, greatest, clamped}
 use Rattle.word.specs.Parity.{as_sent}
-use Rattle.schedule.specs.Codes.{idle, running, paused, code, target, stop, message, gap, fixed_gap, pause, interrupt, jump, last, async_gap, async_part}
-use Rattle.schedule.specs.Schedule.{at, onward, async_sent, marked, gives, message_step, gap_step, reserved_step, jump_step, command_step, stepped}
+use Rattle.schedule.specs.Codes.{running, paused, code, stop, message, gap, fixed_gap, pause, interrupt, jump, last, async_gap}
+use Rattle.schedule.specs.Schedule.{onward, marked, message_step, gap_step, command_step, stepped}
 use Rattle.schedule.specs.Spacing.{Item, Word, Nulls, Forgotten, on_line, nulls, Remembered, Spaced}
 use Rattle.schedule.specs.declared.Place.{Place}
 use Rattle.schedule.specs.declared.Outcome.{Outcome}

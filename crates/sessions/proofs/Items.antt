@@ -8,7 +8,6 @@ use lib.ListN.{length}
 use Rattle.little_endian.specs.LittleEndian.{word_at}
 use Rattle.items.specs.Items.{decoded}
 use Rattle.calls.specs.Performed.{item_after}
-use Rattle.items.specs.declared.Item.{Item}
 use Rattle.sessions.specs.Sessions.{item_bytes, item_at, performed}
 
 pub made_of : (bytes : List ℕ) (at op ch a b : ℕ) → op ≡ word_at bytes at → ch ≡ word_at bytes (at + 4) → a ≡ word_at bytes (at + 8) → b ≡ word_at bytes (at + 12)

@@ -1,6 +1,6 @@
 -- Every module-wide call shows or stores a word of the module part behind the count.
 -- Assumes nothing.
-use Rattle.std.proofs.Common.{◌≡◌, ℕ, arith}
+use Rattle.std.proofs.Common.{◌≡◌, arith}
 use Rattle.wide.specs.Effects.{wide_effect, place_of, PartWord}
 use Rattle.wide.specs.declared.calls.WideCall.{WideCall}
 use Rattle.wide.specs.declared.calls.WideEffect.{WideEffect}

@@ -1,5 +1,5 @@
 // The module-wide calls, as values, and what they do.
-#[derive(Drop)]
+#[derive(Clone, Copy)]
 pub enum WideCall {
     // The ticks to add.
     AdvanceStamp(u32),

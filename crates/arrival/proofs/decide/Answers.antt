@@ -2,7 +2,6 @@
 -- Assumes nothing.
 use Rattle.word.proofs.Branches.{branches}
 use Rattle.arrival.specs.Arrival.{arrival}
-use borrow.Author.Rules.{rules}
 use Rattle.arrival.proofs.decide.Goals as goal
 
 pub returns-then-block-eq0 : goal.returns-then-block-eq0

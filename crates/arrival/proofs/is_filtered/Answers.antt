@@ -3,7 +3,6 @@
 use Rattle.word.proofs.Branches.{branches}
 use borrow.Author.Tests.{ne_eqb}
 use Rattle.arrival.specs.Arrival.{filtered}
-use borrow.Author.Rules.{rules}
 use Rattle.arrival.proofs.is_filtered.Goals as goal
 
 pub returns-then-block-eq0 : goal.returns-then-block-eq0

@@ -4,7 +4,6 @@ use mathlib.Core.Path.{refl}
 use Rattle.word.proofs.Branches.{branches}
 use borrow.Author.Tests.{ne_eqb}
 use Rattle.arrival.specs.Arrival.{listed}
-use borrow.Author.Rules.{rules}
 use Rattle.arrival.proofs.is_listed.Goals as goal
 
 pub returns-then-block-eq-FIFO_MODE : goal.returns-then-block-eq-FIFO_MODE

@@ -3,7 +3,6 @@
 use native.Mathlib.Omega.{arith}
 use Prim.Native.Nat.{◌+◌, ◌*◌, ◌/◌, ◌%◌, ◌^◌, ◌<◌}
 use Rattle.bits.proofs.Bits.{positive, weighed, product_low}
-use borrow.Author.Rules.{rules}
 use Rattle.bits.proofs.with_bit.Goals as goal
 
 -- the weight is positive, and the word with the bit written fits

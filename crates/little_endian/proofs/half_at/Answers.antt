@@ -1,7 +1,6 @@
 -- `little_endian::half_at` meets its contract: the number of its two bytes.
 -- Assumes nothing.
 use Rattle.little_endian.specs.LittleEndian.{half_at}
-use borrow.Author.Rules.{rules}
 use Rattle.little_endian.proofs.half_at.Goals as goal
 
 pub returns : goal.returns

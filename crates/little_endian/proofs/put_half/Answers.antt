@@ -4,7 +4,6 @@ use native.Mathlib.Numerals.{towards_suc}
 use native.Mathlib.Omega.{arith}
 use lib.ListN.{length-set}
 use Rattle.little_endian.specs.LittleEndian.{two, four}
-use borrow.Author.Rules.{rules}
 use Rattle.little_endian.proofs.put_half.Goals as goal
 
 pub bounds-bytes-at-2 : goal.bounds-bytes-at-2

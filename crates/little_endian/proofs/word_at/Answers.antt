@@ -1,7 +1,6 @@
 -- `little_endian::word_at` meets its contract: the word of its four bytes.
 -- Assumes nothing.
 use Rattle.little_endian.specs.LittleEndian.{word_at}
-use borrow.Author.Rules.{rules}
 use Rattle.little_endian.proofs.word_at.Goals as goal
 
 pub returns : goal.returns

@@ -1,13 +1,12 @@
 -- `power::fill_channels` meets its contract: the blocks of the channels passed are filled, those of the others are zeros.
 -- Assumes nothing.
-use Prim.Native.Nat.{◌≤◌, ◌-◌}
-use mathlib.Core.Path.{◌≡◌, refl}
-use lib.ListN.{length}
+use Prim.Native.Nat.{◌-◌}
+use mathlib.Core.Path.{refl}
 use borrow.Rule.Slice.PartMut.{put_mid}
 use native.Mathlib.Omega.{arith}
 use borrow.Author.Rules.{rules}
 use Rattle.frame.specs.Layout.{module_words}
-use Rattle.power.proofs.Filling.{filled_to, zeroed, filled_next, filled_all}
+use Rattle.power.proofs.Filling.{zeroed, filled_next, filled_all}
 use Rattle.power.proofs.fill_channels.Goals as goal
 
 pub loop-channel-init : goal.loop-channel-init

@@ -3,7 +3,6 @@
 use native.Mathlib.Omega.{arith}
 use lib.ListN.{length-set}
 use Rattle.power.proofs.Filling.{part_stored}
-use borrow.Author.Rules.{rules}
 use Rattle.power.proofs.fill_part.Goals as goal
 
 pub returns : goal.returns

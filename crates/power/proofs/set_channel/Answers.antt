@@ -2,7 +2,6 @@
 -- Assumes nothing.
 use mathlib.Core.Path.{refl}
 use Rattle.frame.proofs.Blocks.{part_is, put_is}
-use borrow.Author.Rules.{rules}
 use Rattle.power.proofs.set_channel.Goals as goal
 
 pub returns : goal.returns

@@ -1,13 +1,9 @@
 -- `power::zero` meets its contract: the words before the index are zeros, the others as they were.
 -- Assumes nothing.
-use borrow.Author.Rules.{rules}
-use native.Mathlib.Omega.{arith}
-use lib.Seq.{drop-length}
-use lib.ListN.{length, length-set, replicate, drop, set}
-use borrow.Author.Fill.{fill_none, fill_more}
-use Prim.Native.Nat.{◌≤◌, ◌<◌, ◌-◌}
-use mathlib.Core.List.{◌++◌, append-nil}
-use mathlib.Core.Path.{◌≡◌, refl, ◌∙◌, ap}
+use lib.ListN.{length, replicate, drop}
+use Prim.Native.Nat.{◌≤◌, ◌-◌}
+use mathlib.Core.List.{◌++◌}
+use mathlib.Core.Path.{◌≡◌}
 use Rattle.power.proofs.zero.Given as goal
 
 abbrev pub invariant-loop-at : goal.invariant-loop-at

@@ -1,6 +1,5 @@
 -- `receive::arrive` meets its contract, from what its three calls ensure.
 -- Assumes nothing.
-use Rattle.std.proofs.Common.{rules}
 use Rattle.receive.proofs.arrive.Goals as goal
 
 pub returns : goal.returns

@@ -2,7 +2,7 @@
 -- Assumes nothing.
 use Rattle.receive.proofs.Stores.{mail_stores, mark_fits}
 use Rattle.word.proofs.Branches.{branches}
-use Rattle.std.proofs.Common.{arith, length-set, rules}
+use Rattle.std.proofs.Common.{arith, length-set}
 use Rattle.receive.specs.Entries.{mailed}
 use Rattle.receive.proofs.mail.Goals as goal
 

@@ -1,6 +1,6 @@
 -- `receive::overwrite` meets its contract, from what the ring's functions and the wrapping add ensure.
 -- Assumes nothing.
-use Rattle.std.proofs.Common.{arith, length-set, rules}
+use Rattle.std.proofs.Common.{arith, length-set}
 use Rattle.fifos.proofs.Bounds.{bounds}
 use Rattle.receive.proofs.overwrite.Goals as goal
 

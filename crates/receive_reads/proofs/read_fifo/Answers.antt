@@ -1,6 +1,6 @@
 -- `receive_reads::read_fifo` meets its contract, from what the ring's functions and the wrapping add ensure.
 -- Assumes nothing.
-use Rattle.std.proofs.Common.{ap, ◌∙◌, arith, rules}
+use Rattle.std.proofs.Common.{ap, ◌∙◌, arith}
 use Rattle.receive_reads.specs.Reading.{shown}
 use Rattle.fifos.proofs.Bounds.{bounds}
 use Rattle.receive_reads.proofs.read_fifo.Goals as goal

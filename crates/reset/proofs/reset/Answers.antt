@@ -34,7 +34,10 @@ part_kept m e i h = each_word reset_own m (wide_framed m e) (word m count) i (om
 pub returns : goal.returns
 unfolding module_reset
 returns c = let m = c.args.mem.now in
-    let z : wide_refusal m ≡ 0 = sym c.wide_refusal-refusal.ensures ∙ c.if-refusal-ne0.false in (record { refusal = sym z; after = rw z
+    let z : wide_refusal m ≡ 0 = sym c.wide_refusal-refusal.ensures ∙ c.if-refusal-ne0.false in (record {
+      refusal = sym z;
+      after = rw z
           (c.fill_part.ensures
           ∙ ap (λ (t : List ℕ). part_with (word t count) (word t layout) ++ drop module_words t) c.reset_channels.ensures
-          ∙ rw (part_kept m z count (omega arith), part_kept m z layout (omega arith)) refl) })
+          ∙ rw (part_kept m z count (omega arith), part_kept m z layout (omega arith)) refl);
+    })

@@ -1,6 +1,5 @@
 -- `restart::clear_fifos` meets its contract, from what the two clears ensure.
 -- Assumes nothing.
-use borrow.Author.Rules.{rules}
 use Rattle.restart.proofs.clear_fifos.Goals as goal
 
 pub returns : goal.returns

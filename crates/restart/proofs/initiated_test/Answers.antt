@@ -4,7 +4,6 @@ use lib.ListN.{length-set}
 use native.Mathlib.Omega.{arith}
 use borrow.Author.Tests.{eq-eqb, ne_eqb}
 use Rattle.restart.specs.Tests.{tested}
-use borrow.Author.Rules.{rules}
 use Rattle.restart.proofs.initiated_test.Goals as goal
 
 pub returns-then-res-eq0 : goal.returns-then-res-eq0

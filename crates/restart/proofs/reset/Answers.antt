@@ -3,7 +3,6 @@
 use Rattle.restart.specs.Tests.{block_reset}
 use lib.ListN.{length-set}
 use native.Mathlib.Omega.{arith}
-use borrow.Author.Rules.{rules}
 use Rattle.restart.proofs.reset.Goals as goal
 
 pub returns : goal.returns

@@ -3,7 +3,6 @@
 use native.Mathlib.Numerals.{towards_suc}
 use native.Mathlib.Omega.{arith}
 use lib.ListN.{length-set}
-use borrow.Author.Rules.{rules}
 use Rattle.ring.proofs.append3.Goals as goal
 
 pub bounds-block-s-2 : goal.bounds-block-s-2

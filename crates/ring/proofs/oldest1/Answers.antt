@@ -2,7 +2,6 @@
 -- Assumes nothing.
 use native.Mathlib.Nat.{mod-eq_of_lt, one-mul}
 use Rattle.ring.specs.Ring.{words}
-use borrow.Author.Rules.{rules}
 use Rattle.ring.proofs.oldest1.Goals as goal
 
 pub returns : goal.returns

@@ -3,7 +3,6 @@
 use native.Mathlib.Nat.{mod-eq_of_lt}
 use native.Mathlib.Numerals.{towards_suc}
 use Rattle.ring.specs.Ring.{words}
-use borrow.Author.Rules.{rules}
 use Rattle.ring.proofs.oldest3.Goals as goal
 
 pub returns : goal.returns

@@ -2,7 +2,6 @@
 -- Assumes nothing.
 use Rattle.word.proofs.Branches.{branches}
 use Rattle.schedule.specs.Schedule.{command_step}
-use borrow.Author.Rules.{rules}
 use Rattle.schedule.proofs.command_step.Goals as goal
 
 pub returns-then-code-eq-STOP : goal.returns-then-code-eq-STOP

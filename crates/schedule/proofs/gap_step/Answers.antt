@@ -2,7 +2,6 @@
 -- Assumes nothing.
 use Rattle.word.proofs.Branches.{branches}
 use Rattle.schedule.specs.Schedule.{gap_step}
-use borrow.Author.Rules.{rules}
 use Rattle.schedule.proofs.gap_step.Goals as goal
 
 pub returns-then-place-eq0 : goal.returns-then-place-eq0

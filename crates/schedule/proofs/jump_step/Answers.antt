@@ -1,6 +1,5 @@
 -- `schedule::jump_step` meets its contract, from what its callees ensure.
 -- Assumes nothing.
-use borrow.Author.Rules.{rules}
 use Rattle.schedule.proofs.jump_step.Goals as goal
 
 pub returns : goal.returns

@@ -2,7 +2,6 @@
 -- Assumes nothing.
 use Rattle.word.proofs.Branches.{branches}
 use Rattle.schedule.specs.Schedule.{message_step}
-use borrow.Author.Rules.{rules}
 use Rattle.schedule.proofs.message_step.Goals as goal
 
 pub returns-then-place-eq0 : goal.returns-then-place-eq0

@@ -2,7 +2,6 @@
 -- Assumes nothing.
 use Rattle.word.proofs.Branches.{branches}
 use Rattle.schedule.specs.Schedule.{onward}
-use borrow.Author.Rules.{rules}
 use Rattle.schedule.proofs.onward.Goals as goal
 
 pub returns-then-place-ge-LAST : goal.returns-then-place-ge-LAST

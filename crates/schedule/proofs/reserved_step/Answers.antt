@@ -1,6 +1,5 @@
 -- `schedule::reserved_step` meets its contract, from what its callees ensure.
 -- Assumes nothing.
-use borrow.Author.Rules.{rules}
 use Rattle.schedule.proofs.reserved_step.Goals as goal
 
 pub returns : goal.returns

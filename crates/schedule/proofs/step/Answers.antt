@@ -2,7 +2,6 @@
 -- Assumes nothing.
 use Rattle.word.proofs.Branches.{branches}
 use Rattle.schedule.specs.Schedule.{stepped}
-use borrow.Author.Rules.{rules}
 use Rattle.schedule.proofs.step.Goals as goal
 
 pub returns-then-place-eq-RUNNING : goal.returns-then-place-eq-RUNNING

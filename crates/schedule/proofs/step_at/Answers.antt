@@ -1,8 +1,6 @@
 -- `schedule::step_at` meets its contract: the command and the word that it names are read from the RAMs.
 -- Assumes nothing.
-use mathlib.Core.Path.{refl}
 use Rattle.schedule.specs.Schedule.{step_at}
-use borrow.Author.Rules.{rules}
 use Rattle.schedule.proofs.step_at.Goals as goal
 
 pub returns : goal.returns

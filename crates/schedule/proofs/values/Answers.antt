@@ -1,7 +1,6 @@
 -- `schedule::values` meets its contract: each case of the enum is a case of the definition.
 -- Assumes nothing.
 use Rattle.schedule.specs.Output.{values}
-use borrow.Author.Rules.{rules}
 use Rattle.schedule.proofs.values.Goals as goal
 
 pub returns-in-Quiet : goal.returns-in-Quiet

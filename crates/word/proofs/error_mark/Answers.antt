@@ -2,7 +2,6 @@
 -- Assumes nothing.
 use Rattle.word.proofs.Branches.{branches}
 use Rattle.word.specs.Parity.{error_mark}
-use borrow.Author.Rules.{rules}
 use Rattle.word.proofs.error_mark.Goals as goal
 
 pub returns-then-parity-eq0 : goal.returns-then-parity-eq0

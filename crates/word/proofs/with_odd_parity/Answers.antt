@@ -2,7 +2,6 @@
 -- Assumes nothing.
 use Rattle.word.proofs.Branches.{branches}
 use Rattle.word.specs.Parity.{odd_parity}
-use borrow.Author.Rules.{rules}
 use Rattle.word.proofs.with_odd_parity.Goals as goal
 
 pub returns-then-count_of_ones-eq1 : goal.returns-then-count_of_ones-eq1

@@ -2,7 +2,6 @@
 -- Assumes nothing.
 use mathlib.Core.Path.{refl}
 use Rattle.block.specs.Ranges.{leasts, greatests}
-use borrow.Author.Rules.{rules}
 use Rattle.block.proofs.ranges.in_range.Goals as goal
 
 pub returns : goal.returns

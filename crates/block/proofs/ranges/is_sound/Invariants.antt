@@ -1,14 +1,9 @@
 -- `block::ranges::is_sound` meets its contract: in both loops, what is told so far is told of the words before the index.
 -- Assumes nothing.
-use borrow.Author.Rules.{rules}
 use Prim.Native.Nat.{◌≤◌, ◌-◌}
-use mathlib.Core.Path.{◌≡◌, refl, sym, ap₂, ◌∙◌}
-use mathlib.Core.Bool.{true, false, ◌&&◌}
-use native.Mathlib.Numerals.{add-one}
-use native.Mathlib.Omega.{arith}
+use mathlib.Core.Path.{◌≡◌}
 use Rattle.block.specs.Layout.{ranged, settings}
 use Rattle.block.specs.Ranges.{leasts, greatests, all_within}
-use Rattle.block.proofs.Sound.{decides}
 use Rattle.block.proofs.ranges.is_sound.Given as goal
 
 abbrev pub invariant-loop-at : goal.invariant-loop-at

@@ -1,7 +1,6 @@
 -- `channel::dispatch::act` meets its contract: each call from what its callee ensures.
 -- Assumes nothing.
 use mathlib.Core.Path.{refl, ◌∙◌}
-use borrow.Author.Rules.{rules}
 use Rattle.channel.proofs.dispatch.act.Goals as goal
 
 pub on_receive-requires : goal.on_receive-requires

@@ -3,7 +3,6 @@
 use native.Mathlib.Omega.{arith}
 use Rattle.channel.proofs.Signals.{signal_le}
 use Rattle.channel.proofs.Performed.{performed}
-use borrow.Author.Rules.{rules}
 use Rattle.channel.proofs.dispatch.on_block.Goals as goal
 
 pub overflow_add-holds : goal.overflow_add-holds

@@ -1,6 +1,5 @@
 -- `channel::dispatch::show` meets its contract: each call from what its callee ensures.
 -- Assumes nothing.
-use borrow.Author.Rules.{rules}
 use Rattle.channel.proofs.dispatch.show.Goals as goal
 
 pub returns-in-Status : goal.returns-in-Status

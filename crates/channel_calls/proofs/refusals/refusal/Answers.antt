@@ -1,6 +1,5 @@
 -- `channel_calls::refusals::refusal` meets its contract: each call from what its callee ensures.
 -- Assumes nothing.
-use borrow.Author.Rules.{rules}
 use Rattle.channel_calls.proofs.refusals.refusal.Goals as goal
 
 pub returns-in-Settings : goal.returns-in-Settings

@@ -1,6 +1,5 @@
 -- `channel_calls::refusals::test_refusal` meets its contract: each call from what its callee ensures.
 -- Assumes nothing.
-use borrow.Author.Rules.{rules}
 use Rattle.channel_calls.proofs.refusals.test_refusal.Goals as goal
 
 pub returns-in-Sample : goal.returns-in-Sample

@@ -2,7 +2,6 @@
 -- Assumes nothing.
 use mathlib.Core.Path.{ap₂, ◌∙◌}
 use Rattle.block.specs.Refusals.{first}
-use borrow.Author.Rules.{rules}
 use Rattle.channel_calls.proofs.refusals.transmit_refusal.Goals as goal
 
 pub returns-in-WriteFifo : goal.returns-in-WriteFifo

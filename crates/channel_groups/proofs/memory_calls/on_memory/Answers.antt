@@ -7,7 +7,6 @@ use Rattle.schedule.specs.Codes.{last_message, last}
 use Rattle.block.specs.Layout.{last_index}
 use Rattle.channel_calls.proofs.Accepted.{not_above}
 use Rattle.channel_calls.specs.declared.calls.Answer.TheVariants.{Value}
-use borrow.Author.Rules.{rules}
 use Rattle.channel_groups.proofs.memory_calls.on_memory.Goals as goal
 
 pub write-requires : goal.write-requires

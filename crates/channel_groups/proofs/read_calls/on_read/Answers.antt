@@ -2,7 +2,6 @@
 -- Assumes nothing.
 use borrow.Author.Tests.{eq-eqb, ne_eqb}
 use mathlib.Core.Path.{refl}
-use borrow.Author.Rules.{rules}
 use Rattle.channel_groups.proofs.read_calls.on_read.Goals as goal
 
 pub returns-then-mark-eq0 : goal.returns-then-mark-eq0

@@ -6,7 +6,6 @@ use Rattle.block.specs.Layout.{last_index}
 use Rattle.channel_calls.proofs.Accepted.{not_above, not_below}
 use Rattle.channel_groups.specs.Groups.{entry_answer}
 use Rattle.channel_calls.specs.declared.calls.Answer.TheVariants.{Arrived}
-use borrow.Author.Rules.{rules}
 use Rattle.channel_groups.proofs.receive_calls.on_receive.Goals as goal
 
 pub read_fifo-entry-requires : goal.read_fifo-entry-requires

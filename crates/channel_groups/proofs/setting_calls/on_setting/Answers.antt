@@ -1,7 +1,6 @@
 -- `channel_groups::setting_calls::on_setting` meets its contract: each call from what its callee ensures.
 -- Assumes nothing.
 use mathlib.Core.Path.{refl}
-use borrow.Author.Rules.{rules}
 use Rattle.channel_groups.proofs.setting_calls.on_setting.Goals as goal
 
 pub returns-in-WriteSetting : goal.returns-in-WriteSetting

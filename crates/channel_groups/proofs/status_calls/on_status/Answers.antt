@@ -1,7 +1,6 @@
 -- `channel_groups::status_calls::on_status` meets its contract: each call from what its callee ensures.
 -- Assumes nothing.
 use mathlib.Core.Path.{refl}
-use borrow.Author.Rules.{rules}
 use Rattle.channel_groups.proofs.status_calls.on_status.Goals as goal
 
 pub returns-in-ClearLatch : goal.returns-in-ClearLatch

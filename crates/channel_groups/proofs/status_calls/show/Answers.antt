@@ -1,7 +1,6 @@
 -- `channel_groups::status_calls::show` meets its contract: each call from what its callee ensures.
 -- Assumes nothing.
 use mathlib.Core.Path.{refl}
-use borrow.Author.Rules.{rules}
 use Rattle.channel_groups.proofs.status_calls.show.Goals as goal
 
 pub returns-in-ReadStatus : goal.returns-in-ReadStatus

@@ -1,6 +1,6 @@
 -- `fifos::clearing::clear_receive` meets its contract, from what its callees ensure.
 -- Assumes nothing.
-use Rattle.std.proofs.Common.{arith, length-set, rules}
+use Rattle.std.proofs.Common.{arith, length-set}
 use Rattle.word.proofs.Branches.{branches}
 use Rattle.fifos.proofs.clearing.clear_receive.Goals as goal
 

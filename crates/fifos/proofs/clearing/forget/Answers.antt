@@ -1,6 +1,6 @@
 -- `fifos::clearing::forget` meets its contract, from what its callees ensure.
 -- Assumes nothing.
-use Rattle.std.proofs.Common.{arith, length-set, rules}
+use Rattle.std.proofs.Common.{arith, length-set}
 use Rattle.fifos.proofs.clearing.forget.Goals as goal
 
 pub returns : goal.returns

@@ -1,9 +1,7 @@
 -- `fifos::mailboxes::unlist` meets its contract: the entries passed have taken their mailboxes' marks.
 -- Assumes nothing.
-use Rattle.std.proofs.Common.{◌≡◌, ℕ, ◌+◌, ◌-◌, ◌≤◌, List, sym, refl, ◌∙◌, subst, add-one, arith, rules, ne_eqb}
-use Rattle.word.proofs.Branches.{branches}
-use Rattle.fifos.specs.Mailboxes.{mark_taken, listed_index, marks_taken, unlisted}
-use Rattle.fifos.proofs.Marks.{marks_length, listed_below}
+use Rattle.std.proofs.Common.{◌≡◌, ◌-◌, ◌≤◌}
+use Rattle.fifos.specs.Mailboxes.{marks_taken}
 use Rattle.fifos.proofs.mailboxes.unlist.Given as goal
 
 abbrev pub invariant-loop-entry : goal.invariant-loop-entry

@@ -3,7 +3,6 @@
 use Rattle.block.specs.Layout.{word}
 use Rattle.frame.specs.Layout.{count}
 use borrow.Author.Rules.{rules}
-use Prim.Native.Nat.{◌≤◌, ◌-◌}
 use mathlib.Core.Path.{◌≡◌, refl, ap₂}
 use mathlib.Core.Bool.{◌&&◌}
 use native.Mathlib.Numerals.{add-one}

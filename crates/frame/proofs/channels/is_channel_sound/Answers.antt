@@ -1,7 +1,6 @@
 -- `frame::channels::is_channel_sound` meets its contract, from what `is_sound` ensures of the part that is lent.
 -- Assumes nothing.
 use Rattle.frame.proofs.Blocks.{part_is}
-use borrow.Author.Rules.{rules}
 use Rattle.frame.proofs.channels.is_channel_sound.Goals as goal
 
 pub returns : goal.returns

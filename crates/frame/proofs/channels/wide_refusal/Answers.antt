@@ -4,7 +4,6 @@ use mathlib.Core.Path.{sym, ◌∙◌}
 use Rattle.word.proofs.Branches.{branches}
 use Rattle.frame.specs.Refusals.{wide_refusal}
 use Rattle.frame.proofs.Refused.{standing}
-use borrow.Author.Rules.{rules}
 use Rattle.frame.proofs.channels.wide_refusal.Goals as goal
 
 pub are_sound-requires : goal.are_sound-requires

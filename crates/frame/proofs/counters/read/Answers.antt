@@ -3,7 +3,6 @@
 use native.Mathlib.Omega.{arith}
 use Rattle.ring.specs.Ring.{words}
 use Rattle.ring.proofs.Words.{words_part}
-use borrow.Author.Rules.{rules}
 use Rattle.frame.proofs.counters.read.Goals as goal
 
 pub returns : goal.returns

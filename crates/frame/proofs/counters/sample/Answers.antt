@@ -1,6 +1,5 @@
 -- `frame::counters::sample` meets its contract, from what `sampled` ensures.
 -- Assumes nothing.
-use borrow.Author.Rules.{rules}
 use Rattle.frame.proofs.counters.sample.Goals as goal
 
 pub returns : goal.returns

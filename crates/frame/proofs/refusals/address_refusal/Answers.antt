@@ -6,7 +6,6 @@ use Rattle.word.proofs.Branches.{branches}
 use Rattle.frame.specs.Refusals.{channel_of}
 use Rattle.frame.proofs.Refused.{standing}
 use Rattle.frame.proofs.Blocks.{part_is, channel_room}
-use borrow.Author.Rules.{rules}
 use Rattle.frame.proofs.refusals.address_refusal.Goals as goal
 
 pub returns-then-channel-lt1 : goal.returns-then-channel-lt1

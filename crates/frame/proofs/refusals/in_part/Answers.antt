@@ -2,7 +2,6 @@
 -- Assumes nothing.
 use mathlib.Core.Path.{refl}
 use Rattle.frame.specs.Refusals.{part_leasts, part_greatests}
-use borrow.Author.Rules.{rules}
 use Rattle.frame.proofs.refusals.in_part.Goals as goal
 
 pub returns : goal.returns

@@ -1,11 +1,7 @@
 -- `frame::refusals::is_part_sound` meets its contract: what is told so far is told of the words before the index.
 -- Assumes nothing.
-use borrow.Author.Rules.{rules}
 use Prim.Native.Nat.{◌≤◌, ◌-◌}
-use mathlib.Core.Path.{◌≡◌, refl, ap₂}
-use mathlib.Core.Bool.{◌&&◌}
-use native.Mathlib.Numerals.{add-one}
-use native.Mathlib.Omega.{arith}
+use mathlib.Core.Path.{◌≡◌}
 use Rattle.block.specs.Ranges.{all_within}
 use Rattle.frame.specs.Layout.{module_words}
 use Rattle.frame.specs.Refusals.{part_leasts, part_greatests}

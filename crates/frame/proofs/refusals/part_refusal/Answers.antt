@@ -5,7 +5,6 @@ use native.Mathlib.Omega.{arith}
 use Rattle.word.proofs.Branches.{branches}
 use Rattle.frame.specs.Refusals.{part_refusal}
 use Rattle.frame.proofs.Refused.{framed}
-use borrow.Author.Rules.{rules}
 use Rattle.frame.proofs.refusals.part_refusal.Goals as goal
 
 pub is_part_sound-requires : goal.is_part_sound-requires

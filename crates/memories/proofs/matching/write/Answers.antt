@@ -1,7 +1,6 @@
 -- `memories::matching::write` meets its contract, from what `with_bit` ensures.
 -- Assumes nothing.
 use Rattle.word.proofs.Branches.{branches}
-use borrow.Author.Rules.{rules}
 use Rattle.memories.proofs.matching.write.Goals as goal
 
 pub returns : goal.returns

@@ -1,7 +1,6 @@
 -- `module::on_channel::accept` meets its contract: the counter and the block, from what the callees ensure.
 -- Assumes nothing.
 use Rattle.module.proofs.Accepted.{put_length, lent, accepted_is}
-use borrow.Author.Rules.{rules}
 use Rattle.module.proofs.on_channel.accept.Goals as goal
 
 pub on_block-requires : goal.on_block-requires

@@ -1,7 +1,6 @@
 -- `module::on_channel::counter_after` meets its contract: each call from what its callee ensures.
 -- Assumes nothing.
 use mathlib.Core.Path.{refl}
-use borrow.Author.Rules.{rules}
 use Rattle.module.proofs.on_channel.counter_after.Goals as goal
 
 pub returns-in-Tests : goal.returns-in-Tests

@@ -5,7 +5,6 @@ use Rattle.block.proofs.Refusals.{is_one, is_other}
 use Rattle.frame.proofs.Blocks.{within_memory, part_is}
 use Rattle.module.specs.OnChannel.{on_refusal}
 use Rattle.module.proofs.Accepted.{room, refused, done}
-use borrow.Author.Rules.{rules}
 use Rattle.module.proofs.on_channel.on_channel.Goals as goal
 
 pub returns-then-address-ne0 : goal.returns-then-address-ne0

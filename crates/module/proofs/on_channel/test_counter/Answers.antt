@@ -2,7 +2,6 @@
 -- Assumes nothing.
 use mathlib.Core.Path.{refl}
 use Rattle.module.proofs.Sampled.{sampled_counter}
-use borrow.Author.Rules.{rules}
 use Rattle.module.proofs.on_channel.test_counter.Goals as goal
 
 pub returns-in-Sample : goal.returns-in-Sample

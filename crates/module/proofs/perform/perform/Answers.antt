@@ -4,7 +4,6 @@ use Prim.Native.Nat.{ℕ}
 use mathlib.Core.Path.{ap, ◌∙◌}
 use Rattle.channel_calls.specs.declared.calls.Answer.TheVariants.{Done}
 use Rattle.channel_calls.specs.Answers.{answer_unless}
-use borrow.Author.Rules.{rules}
 use Rattle.module.proofs.perform.perform.Goals as goal
 
 pub returns-in-PowerUp : goal.returns-in-PowerUp

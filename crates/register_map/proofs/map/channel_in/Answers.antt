@@ -3,7 +3,6 @@
 use Prim.Native.Nat.{◌-◌, ◌/◌, ◌<◌}
 use native.Mathlib.Nat.{div-lt_iff_lt-mul}
 use native.Mathlib.Omega.{arith}
-use borrow.Author.Rules.{rules}
 use Rattle.word.proofs.Branches.{branches}
 use Rattle.frame.specs.Layout.{most}
 use Rattle.register_map.specs.Map.{channel_in}

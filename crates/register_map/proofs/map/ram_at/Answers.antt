@@ -1,6 +1,5 @@
 -- `register_map::map::ram_at` meets its contract: each branch is a case of the definition.
 -- Assumes nothing.
-use borrow.Author.Rules.{rules}
 use Rattle.word.proofs.Branches.{branches}
 use Rattle.register_map.specs.Map.{ram_at}
 use Rattle.register_map.proofs.map.ram_at.Goals as goal

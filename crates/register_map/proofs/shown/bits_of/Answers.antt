@@ -1,7 +1,6 @@
 -- `register_map::shown::bits_of` meets its contract: each variant is a case of the definition.
 -- Assumes nothing.
 use mathlib.Core.Path.{refl}
-use borrow.Author.Rules.{rules}
 use Rattle.register_map.proofs.shown.bits_of.Goals as goal
 
 pub returns-in-CommandBits : goal.returns-in-CommandBits

@@ -1,7 +1,6 @@
 -- `register_map::shown::shown` meets its contract: each answer is a case of the definition.
 -- Assumes nothing.
 use mathlib.Core.Path.{refl, ap}
-use borrow.Author.Rules.{rules}
 use Rattle.channel_calls.specs.declared.calls.Answer.TheVariants.{Value}
 use Rattle.register_map.proofs.shown.shown.Goals as goal
 

@@ -1,6 +1,5 @@
 -- `register_map::shown::status_bits` meets its contract: it is the definition.
 -- Assumes nothing.
-use borrow.Author.Rules.{rules}
 use mathlib.Core.Path.{refl}
 use Rattle.register_map.specs.Shown.{status_bits}
 use Rattle.register_map.proofs.shown.status_bits.Goals as goal

@@ -1,7 +1,6 @@
 -- `register_map::turned::write_of` meets its contract: each register is a case of the definition.
 -- Assumes nothing.
 use mathlib.Core.Path.{refl}
-use borrow.Author.Rules.{rules}
 use Rattle.register_map.proofs.turned.write_of.Goals as goal
 
 pub returns-in-RateOf : goal.returns-in-RateOf

@@ -1,6 +1,5 @@
 -- `register_map::turned::write_turned` meets its contract: each branch is a case of the definition.
 -- Assumes nothing.
-use borrow.Author.Rules.{rules}
 use Rattle.word.proofs.Branches.{branches}
 use Rattle.register_map.specs.Turned.{write_turned}
 use Rattle.register_map.proofs.turned.write_turned.Goals as goal

@@ -2,7 +2,6 @@
 -- Assumes nothing.
 use lib.ListN.{length-set}
 use native.Mathlib.Omega.{arith}
-use borrow.Author.Rules.{rules}
 use Rattle.settings.proofs.factory.reset_nonzero_settings.Goals as goal
 
 pub bounds-block-8 : goal.bounds-block-8

@@ -6,7 +6,6 @@ use mathlib.Core.List.{List, [], ◌∷◌}
 use lib.ListN.{set, length-set}
 use lib.Seq.{sets, set_comm}
 use native.Mathlib.Omega.{arith}
-use borrow.Author.Rules.{rules}
 use Rattle.block.specs.Layout.{receiver, parity, matching, receive_size}
 use Rattle.settings.specs.Factory.{factory_numbers, nonzero_to_factory, settings_to_factory}
 use Rattle.settings.proofs.factory.reset_settings.Goals as goal

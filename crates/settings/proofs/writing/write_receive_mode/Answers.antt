@@ -1,7 +1,6 @@
 -- `settings::writing::write_receive_mode` meets its contract: each branch is a case of the definition.
 -- Assumes nothing.
 use Rattle.word.proofs.Branches.{branches}
-use borrow.Author.Rules.{rules}
 use Rattle.settings.proofs.writing.write_receive_mode.Goals as goal
 
 pub returns-then-block-value : goal.returns-then-block-value

@@ -2,7 +2,6 @@
 -- Assumes nothing.
 use Rattle.word.proofs.Branches.{branches}
 use Rattle.settings.specs.Settings.{setting_refusal}
-use borrow.Author.Rules.{rules}
 use Rattle.settings.proofs.writing.write_refusal.Goals as goal
 
 pub returns-then-value-block : goal.returns-then-value-block

@@ -1,7 +1,6 @@
 -- `settings::writing::write_transmitter` meets its contract: each branch is a case of the definition.
 -- Assumes nothing.
 use Rattle.word.proofs.Branches.{branches}
-use borrow.Author.Rules.{rules}
 use Rattle.settings.proofs.writing.write_transmitter.Goals as goal
 
 pub returns-then-value-eq0 : goal.returns-then-value-eq0

@@ -1,7 +1,6 @@
 -- `status::rule::chosen` meets its contract: seven terms, each from what its call ensures.
 -- Assumes nothing.
 use Rattle.status.specs.Status.{chosen}
-use borrow.Author.Rules.{rules}
 use Rattle.status.proofs.rule.chosen.Goals as goal
 
 pub returns : goal.returns

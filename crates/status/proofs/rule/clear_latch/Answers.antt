@@ -1,7 +1,6 @@
 -- `status::rule::clear_latch` meets its contract, from what `chosen` ensures.
 -- Assumes nothing.
 use Rattle.word.proofs.Branches.{branches}
-use borrow.Author.Rules.{rules}
 use Rattle.status.proofs.rule.clear_latch.Goals as goal
 
 pub returns : goal.returns

@@ -2,7 +2,6 @@
 -- Assumes nothing.
 use Rattle.status.specs.Status.{conditions}
 use native.Mathlib.Omega.{arith}
-use borrow.Author.Rules.{rules}
 use Rattle.status.proofs.rule.conditions.Goals as goal
 
 pub returns : goal.returns

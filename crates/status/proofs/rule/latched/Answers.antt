@@ -1,7 +1,6 @@
 -- `status::rule::latched` meets its contract: seven terms, each from what its call ensures.
 -- Assumes nothing.
 use Rattle.status.specs.Status.{latched}
-use borrow.Author.Rules.{rules}
 use Rattle.status.proofs.rule.latched.Goals as goal
 
 pub returns : goal.returns

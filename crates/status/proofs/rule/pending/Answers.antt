@@ -2,7 +2,6 @@
 -- Assumes nothing.
 use Rattle.word.proofs.Branches.{branches}
 use Rattle.status.specs.Status.{pending}
-use borrow.Author.Rules.{rules}
 use Rattle.status.proofs.rule.pending.Goals as goal
 
 pub returns-then-chosen-eq0 : goal.returns-then-chosen-eq0

@@ -1,7 +1,6 @@
 -- `status::rule::rule` meets its contract, from what `latched` ensures.
 -- Assumes nothing.
 use Rattle.word.proofs.Branches.{branches}
-use borrow.Author.Rules.{rules}
 use Rattle.status.proofs.rule.rule.Goals as goal
 
 pub returns : goal.returns

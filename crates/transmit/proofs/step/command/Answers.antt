@@ -1,6 +1,6 @@
 -- `transmit::step::command` meets its contract: the two RAMs are parts of the block.
 -- Assumes nothing.
-use Rattle.std.proofs.Common.{◌≡◌, ℕ, ◌+◌, ◌<◌, ◌≤◌, List, length, get_or, take, drop, refl, ◌∙◌, mod-lt, arith, length-drop, length-take, get_or-drop, get_or-take, rules}
+use Rattle.std.proofs.Common.{◌≡◌, ℕ, ◌+◌, ◌<◌, ◌≤◌, List, length, get_or, take, drop, refl, ◌∙◌, mod-lt, arith, length-drop, length-take, get_or-drop, get_or-take}
 use Rattle.block.specs.Layout.{word, parity, address, message_ram, schedule_ram}
 use Rattle.memories.specs.Memories.{ram_read}
 use Rattle.block.specs.Ranges.{Usable}

@@ -1,6 +1,6 @@
 -- `transmit::step::scheduled` meets its contract, from the command's outcome.
 -- Assumes nothing.
-use Rattle.std.proofs.Common.{◌≡◌, ◌≤◌, List, refl, arith, rules}
+use Rattle.std.proofs.Common.{◌≡◌, ◌≤◌, List, refl, arith}
 use Rattle.block.specs.Layout.{word, parity}
 use Rattle.schedule.specs.declared.Outcome.{Outcome}
 use Rattle.schedule.proofs.Laws.{step_signal_lem}

@@ -2,7 +2,6 @@
 -- Assumes nothing.
 use Rattle.word.proofs.Branches.{branches}
 use Rattle.transmit.specs.Step.{send_output, triggered_output, triggered_after}
-use Rattle.std.proofs.Common.{rules}
 use Rattle.transmit.proofs.step.triggered.Goals as goal
 
 pub returns-then-block-eq0 : goal.returns-then-block-eq0

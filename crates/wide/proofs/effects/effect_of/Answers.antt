@@ -1,6 +1,6 @@
 -- `wide::effects::effect_of` meets its contract: each call is a row of the definition.
 -- Assumes nothing.
-use Rattle.std.proofs.Common.{refl, rules}
+use Rattle.std.proofs.Common.{refl}
 use Rattle.wide.proofs.effects.effect_of.Goals as goal
 
 pub returns-in-AdvanceStamp : goal.returns-in-AdvanceStamp

@@ -1,6 +1,6 @@
 -- `wide::on_module::accept` meets its contract: a word is shown, or stored as `store` ensures.
 -- Assumes nothing.
-use Rattle.std.proofs.Common.{set, refl, ap, ◌∙◌, arith, rules}
+use Rattle.std.proofs.Common.{set, refl, ap, ◌∙◌, arith}
 use Rattle.frame.specs.Layout.{stamp}
 use Rattle.wide.specs.Rule.{ruled_all}
 use Rattle.wide.proofs.on_module.accept.Goals as goal

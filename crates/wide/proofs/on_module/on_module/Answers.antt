@@ -1,6 +1,6 @@
 -- `wide::on_module::on_module` meets its contract: refused for the memory, refused for the argument, or done.
 -- Assumes nothing.
-use Rattle.std.proofs.Common.{sym, ap, ◌∙◌, rules}
+use Rattle.std.proofs.Common.{sym, ap, ◌∙◌}
 use Rattle.word.proofs.Branches.{branches}
 use Rattle.block.proofs.Refusals.{is_other}
 use Rattle.frame.proofs.Refused.{wide_framed}

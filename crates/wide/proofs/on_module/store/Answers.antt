@@ -1,6 +1,6 @@
 -- `wide::on_module::store` meets its contract: the word, and then the rule on every channel, from what `rule_all` ensures.
 -- Assumes nothing.
-use Rattle.std.proofs.Common.{◌∙◌, length-set, rules}
+use Rattle.std.proofs.Common.{◌∙◌, length-set}
 use Rattle.wide.proofs.Stored.{count_kept, stored_framed}
 use Rattle.wide.proofs.on_module.store.Goals as goal
 

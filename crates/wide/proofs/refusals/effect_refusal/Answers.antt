@@ -1,6 +1,6 @@
 -- `wide::refusals::effect_refusal` meets its contract: a read, a number in range and one outside are the cases of the definition.
 -- Assumes nothing.
-use Rattle.std.proofs.Common.{refl, arith, rules}
+use Rattle.std.proofs.Common.{refl, arith}
 use Rattle.wide.specs.Refusals.{argument_refusal}
 use Rattle.wide.proofs.refusals.effect_refusal.Goals as goal
 

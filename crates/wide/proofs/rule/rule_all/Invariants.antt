@@ -1,12 +1,7 @@
 -- `wide::rule::rule_all` meets its contract: the rule has run on the channels before the index.
 -- Assumes nothing.
-use Rattle.std.proofs.Common.{◌≡◌, ◌-◌, ◌≤◌, refl, ◌∙◌, add-one, arith, rules}
-use Rattle.block.specs.Layout.{word}
-use Rattle.frame.specs.Layout.{count}
-use Rattle.frame.specs.Each.{each_to}
-use Rattle.frame.proofs.Each.{each_length, each_word, each_framed}
+use Rattle.std.proofs.Common.{◌≡◌, ◌-◌, ◌≤◌}
 use Rattle.wide.specs.Rule.{ruled_to}
-use Rattle.wide.proofs.Laws.{ruled_own}
 use Rattle.wide.proofs.rule.rule_all.Given as goal
 
 abbrev pub invariant-loop-ruled : goal.invariant-loop-ruled

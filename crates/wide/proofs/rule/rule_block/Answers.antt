@@ -1,6 +1,5 @@
 -- `wide::rule::rule_block` meets its contract, from what `conditions` and `rule` ensure.
 -- Assumes nothing.
-use Rattle.std.proofs.Common.{rules}
 use Rattle.wide.proofs.rule.rule_block.Goals as goal
 
 pub returns : goal.returns

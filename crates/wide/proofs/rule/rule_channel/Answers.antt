@@ -1,6 +1,6 @@
 -- `wide::rule::rule_channel` meets its contract: the channel's block, from what the callees ensure.
 -- Assumes nothing.
-use Rattle.std.proofs.Common.{refl, rules}
+use Rattle.std.proofs.Common.{refl}
 use Rattle.frame.proofs.Blocks.{part_is, put_is}
 use Rattle.wide.specs.Rule.{ruled_channel}
 use Rattle.wide.proofs.rule.rule_channel.Goals as goal

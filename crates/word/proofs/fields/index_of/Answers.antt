@@ -1,7 +1,6 @@
 -- `word::fields::index_of` meets its contract: a low byte is below 256, so the sum fits.
 -- Assumes nothing.
 use native.Mathlib.Omega.{arith}
-use borrow.Author.Rules.{rules}
 use Rattle.word.proofs.Parts.{low_byte_below}
 use Rattle.word.proofs.fields.index_of.Goals as goal
 
