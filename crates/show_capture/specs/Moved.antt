@@ -1,5 +1,5 @@
 -- What one reading leaves, and a run of them.
-use Rattle.std.specs.Prelude.{◌≡◌, ℕ, ◌<◌, ◌≤◌, ◌≢◌}
+use Rattle.std.specs.Prelude.{ℕ, ◌<◌, ◌≤◌, ◌≢◌}
 use Rattle.show_capture.specs.declared.Held.{Held}
 use Rattle.show_capture.specs.declared.Progress.{Progress}
 use Rattle.show_capture.specs.declared.Shown.{Shown}
