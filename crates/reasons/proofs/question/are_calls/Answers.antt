@@ -15,10 +15,10 @@ returns-then-not-is_call c = sym (no_call c.loop-at.at c.args.bytes.now c.loop-a
 
 pub loop-at-preserved : goal.loop-at-preserved
 loop-at-preserved c = (
-      omega arith,
-      omega (arith, c.loop-at.invariant.1),
-      one_more c.loop-at.at c.args.bytes.now c.loop-at.invariant.1 c.loop-at.invariant.2 (sym c.is_call.ensures ∙ c.if-not-is_call.false),
-    )
+  omega arith,
+  omega (arith, c.loop-at.invariant.1),
+  one_more c.loop-at.at c.args.bytes.now c.loop-at.invariant.1 c.loop-at.invariant.2 (sym c.is_call.ensures ∙ c.if-not-is_call.false),
+)
 
 pub returns : goal.returns
 returns c = all_calls c.loop-at.at c.args.bytes.now c.loop-at.invariant.0 (omega arith) c.loop-at.invariant.1 c.loop-at.invariant.2

@@ -19,17 +19,17 @@ returns-then-not-are_calls c = rw
 pub returns-then-not-is_arrival : goal.returns-then-not-is_arrival
 unfolding list_refusal
 returns-then-not-is_arrival c = rw (
-      few_enough c.args.bytes.now c.if-bytes.false,
-      sym c.are_calls.ensures ∙ c.if-not-are_calls.false,
-      sym c.is_arrival.ensures ∙ c.if-not-is_arrival.true,
-    )
+  few_enough c.args.bytes.now c.if-bytes.false,
+  sym c.are_calls.ensures ∙ c.if-not-are_calls.false,
+  sym c.is_arrival.ensures ∙ c.if-not-is_arrival.true,
+)
     refl
 
 pub returns : goal.returns
 unfolding list_refusal
 returns c = rw (
-      few_enough c.args.bytes.now c.if-bytes.false,
-      sym c.are_calls.ensures ∙ c.if-not-are_calls.false,
-      sym c.is_arrival.ensures ∙ c.if-not-is_arrival.false,
-    )
+  few_enough c.args.bytes.now c.if-bytes.false,
+  sym c.are_calls.ensures ∙ c.if-not-are_calls.false,
+  sym c.is_arrival.ensures ∙ c.if-not-is_arrival.false,
+)
     refl
