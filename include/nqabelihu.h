@@ -18,7 +18,7 @@
  *         && nqabelihu_read_receive_fifo(module, 1, &entry) == NQABELIHU_DONE)
  *         printf("label %o, word %08x\n", (unsigned)nqabelihu_label(entry.word), (unsigned)entry.word);
  *
- * Build: `./install PREFIX`, then `cc program.c $(pkg-config --cflags --libs nqabelihu)`; or, in the repository, `rt staticlib host` and
+ * Build: `./install PREFIX`, then `cc program.c $(pkg-config --cflags --libs nqabelihu)`; or, in the repository, `tools/build host` and
  * `cc -Iinclude program.c target/staticlib/libhost.a`. The library is for x86-64 Linux. This header is C99 and C++11.
  *
  * Rules that the proof takes for granted, and that you have to keep:

@@ -17,7 +17,7 @@ use Rattle.channel_calls.specs.declared.calls.ReadCall.TheVariants.{ReadCounts, 
 use Rattle.channel_calls.specs.declared.calls.ChannelCall.{ChannelCall}
 use Rattle.channel_calls.specs.declared.calls.ChannelCall.TheVariants.{Reads}
 use Rattle.channel_calls.specs.declared.calls.Answer.TheVariants.{Done, Refused, Value, Fates}
-use Rattle.frame.specs.Layout.{count, need, block}
+use Rattle.frame.specs.Layout.{need, block}
 use Rattle.power.specs.Power.{power_refusal, powered}
 use Rattle.module.specs.declared.calls.Call.TheVariants.{PowerUp, Reset, Wide, On}
 use Rattle.registers.specs.Access.{access_answer}
@@ -26,7 +26,7 @@ use Rattle.registers.specs.declared.accesses.Access.TheVariants.{Direct, ReadReg
 use Rattle.module_laws.specs.Reduced.{reduced}
 use Rattle.fates.specs.Run.{lent, run, answer_behind, told_by}
 use Rattle.fates.specs.History.{History, start, Telling, tells, history_step, history}
-use Rattle.fates.specs.Ledger.{Side, Receiving, Transmitting, fifo_of, overwritten_of, Ledger, Departed, change_behind, ledger, Fits, cleared, overwritten}
+use Rattle.fates.specs.Ledger.{Side, Receiving, Transmitting, fifo_of, overwritten_of, Ledger, Departed, change_behind, ledger, Fits}
 use Rattle.fates.specs.Answers.{Answered}
 use Rattle.fates.specs.Agrees.{Agrees}
 use Rattle.fates.specs.Theorem.{Starts, Started, Every, AsAccepted, Accounts, Demand3}

@@ -9,7 +9,7 @@ use native.Mathlib.Omega.{arith}
 use borrow.Author.Tests.{eqb-true, eqb-false}
 use lib.Dec.{eqb}
 use Rattle.word.specs.Word.{index}
-use Rattle.block.specs.Layout.{word, settings, receive_mode, indexes, block_words}
+use Rattle.block.specs.Layout.{word, receive_mode, indexes, block_words}
 use Rattle.block.specs.Modes.{fifo_mode}
 use Rattle.fifos.specs.Fifos.{Clears}
 use Rattle.settings.specs.Kept.{Kept, kept_of}

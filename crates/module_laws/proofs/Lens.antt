@@ -10,11 +10,11 @@ use lib.Dec.{eqb, ltb}
 use lib.ListN.{length, set, length-set}
 use lib.Seq.{set_comm}
 use Rattle.block.specs.Layout.{word, block_words}
-use Rattle.block.specs.Refusals.{first, leave_unless}
+use Rattle.block.specs.Refusals.{leave_unless}
 use Rattle.channel_calls.specs.declared.calls.Answer.TheVariants.{Refused}
 use Rattle.channel_calls.specs.declared.calls.ChannelCall.{ChannelCall}
 use Rattle.channel.specs.Channel.{block_answer}
-use Rattle.frame.specs.Layout.{count, stamp, threshold, most, base, block, with_block}
+use Rattle.frame.specs.Layout.{count, stamp, threshold, most, base, with_block}
 use Rattle.frame.specs.Refusals.{part_refusal, channel_of}
 use Rattle.frame.proofs.Refused.{standing}
 use Rattle.frame.proofs.Blocks.{with_set, with_comm}

@@ -31,7 +31,7 @@ use Rattle.power.proofs.Laws.{power_framed, powered-length, powered-word, powere
 use Rattle.wide.specs.Effects.{wide_effect, place_of, PartWord}
 use Rattle.wide.specs.Refusals.{call_refusal}
 use Rattle.wide.specs.Rule.{ruled_all}
-use Rattle.wide.specs.OnModule.{effect_answer, effect_after, wide_answer, wide_after}
+use Rattle.wide.specs.OnModule.{effect_answer, effect_after}
 use Rattle.wide.specs.declared.calls.WideCall.{WideCall}
 use Rattle.wide.specs.declared.calls.WideEffect.{WideEffect}
 use Rattle.wide.specs.declared.calls.WideEffect.TheVariants.{Shows, Stores, Advances}

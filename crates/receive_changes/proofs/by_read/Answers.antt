@@ -1,7 +1,6 @@
 -- `receive_changes::by_read` meets its contract: each case is one of the definition.
 -- Assumes nothing.
 use mathlib.Core.Path.{refl}
-use borrow.Author.Rules.{rules}
 use Rattle.receive_changes.proofs.by_read.Goals as goal
 
 pub returns-in-Done : goal.returns-in-Done

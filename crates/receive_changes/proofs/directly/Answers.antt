@@ -1,7 +1,6 @@
 -- `receive_changes::directly` meets its contract: each test is a case of the definition.
 -- Assumes nothing.
 use mathlib.Core.Path.{refl, sym, ◌∙◌}
-use borrow.Author.Rules.{rules}
 use Rattle.receive_changes.proofs.directly.Goals as goal
 
 pub returns-then-is_refused : goal.returns-then-is_refused

@@ -1,7 +1,6 @@
 -- `receive_changes::on_called` meets its contract: each case is one of the definition.
 -- Assumes nothing.
 use mathlib.Core.Path.{refl}
-use borrow.Author.Rules.{rules}
 use Rattle.receive_changes.proofs.on_called.Goals as goal
 
 pub returns-in-Settings : goal.returns-in-Settings

@@ -1,7 +1,6 @@
 -- `receive_changes::on_channel` meets its contract: each test is a case of the definition.
 -- Assumes nothing.
 use Rattle.word.proofs.Branches.{branches}
-use borrow.Author.Rules.{rules}
 use Rattle.receive_changes.proofs.on_channel.Goals as goal
 
 pub returns-then-named-channel : goal.returns-then-named-channel

@@ -2,11 +2,8 @@
 -- Assumes nothing.
 use Prim.Native.Nat.{◌≤◌, ◌-◌, ◌+◌}
 use mathlib.Core.Path.{◌≡◌}
-use native.Mathlib.Omega.{arith}
 use lib.ListN.{length, drop}
-use borrow.Author.Rules.{rules}
 use Rattle.word_text.specs.Text.{blanks}
-use Rattle.word_text.proofs.Laws.{blank_on, blank_off, blank_end, not_false, not_true}
 use Rattle.word_text.proofs.blanks.Given as goal
 
 abbrev pub invariant-loop-at : goal.invariant-loop-at

@@ -1,12 +1,11 @@
 -- `word_text::digits` meets its contract: so many digits are taken, and what is left to take are those behind them.
 -- Assumes nothing.
-use Prim.Native.Nat.{◌≤◌, ◌<◌, ◌-◌}
-use mathlib.Core.Path.{◌≡◌, sym, ◌∙◌}
+use Prim.Native.Nat.{◌≤◌, ◌<◌}
+use mathlib.Core.Path.{sym, ◌∙◌}
 use native.Mathlib.Omega.{arith}
-use lib.ListN.{length, get_or}
-use borrow.Author.Rules.{rules}
+use lib.ListN.{get_or}
 use Rattle.text.specs.Bytes.{digit_of}
-use Rattle.word_text.proofs.Laws.{Taken, taken_none, taken_on, taken-eight, taken_off, taken_all_lem, digit_most, room}
+use Rattle.word_text.proofs.Laws.{taken_none, taken_on, taken-eight, taken_off, taken_all_lem, digit_most, room}
 use Rattle.word_text.proofs.digits.Goals as goal
 
 pub loop-count-init : goal.loop-count-init

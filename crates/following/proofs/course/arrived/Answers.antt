@@ -1,7 +1,6 @@
 -- `following::course::arrived` meets its contract: each case is one of the definition.
 -- Assumes nothing.
 use mathlib.Core.Path.{refl}
-use borrow.Author.Rules.{rules}
 use Rattle.following.proofs.course.arrived.Goals as goal
 
 pub returns-in-Coming : goal.returns-in-Coming

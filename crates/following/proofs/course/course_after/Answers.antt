@@ -1,7 +1,6 @@
 -- `following::course::course_after` meets its contract: each test is a case of the definition.
 -- Assumes nothing.
 use Rattle.word.proofs.Branches.{branches}
-use borrow.Author.Rules.{rules}
 use Rattle.following.proofs.course.course_after.Goals as goal
 
 pub returns-then-at-place : goal.returns-then-at-place

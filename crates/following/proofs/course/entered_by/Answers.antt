@@ -1,7 +1,6 @@
 -- `following::course::entered_by` meets its contract: each case is one of the definition.
 -- Assumes nothing.
 use mathlib.Core.Path.{refl}
-use borrow.Author.Rules.{rules}
 use Rattle.following.proofs.course.entered_by.Goals as goal
 
 pub returns-in-Ignored : goal.returns-in-Ignored

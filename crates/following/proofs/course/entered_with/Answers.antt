@@ -1,7 +1,6 @@
 -- `following::course::entered_with` meets its contract: each case is one of the definition.
 -- Assumes nothing.
 use mathlib.Core.Path.{refl}
-use borrow.Author.Rules.{rules}
 use Rattle.following.proofs.course.entered_with.Goals as goal
 
 pub returns-in-Done : goal.returns-in-Done

@@ -1,7 +1,6 @@
 -- `following::course::level_after` meets its contract: each case is one of the definition.
 -- Assumes nothing.
 use mathlib.Core.Path.{refl}
-use borrow.Author.Rules.{rules}
 use Rattle.following.proofs.course.level_after.Goals as goal
 
 pub returns-in-Enters : goal.returns-in-Enters

@@ -1,7 +1,6 @@
 -- `following::course::next` meets its contract: what is seen of the access, and the course after it.
 -- Assumes nothing.
 use mathlib.Core.Path.{refl}
-use borrow.Author.Rules.{rules}
 use Rattle.following.proofs.course.next.Goals as goal
 
 pub returns : goal.returns

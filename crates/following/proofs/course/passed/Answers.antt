@@ -1,7 +1,6 @@
 -- `following::course::passed` meets its contract: each case is one of the definition.
 -- Assumes nothing.
 use mathlib.Core.Path.{refl}
-use borrow.Author.Rules.{rules}
 use Rattle.following.proofs.course.passed.Goals as goal
 
 pub level_after-requires : goal.level_after-requires

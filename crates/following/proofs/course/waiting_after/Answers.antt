@@ -1,7 +1,6 @@
 -- `following::course::waiting_after` meets its contract: each case is one of the definition.
 -- Assumes nothing.
 use mathlib.Core.Path.{refl}
-use borrow.Author.Rules.{rules}
 use Rattle.following.proofs.course.waiting_after.Goals as goal
 
 pub returns-in-Nothing : goal.returns-in-Nothing
