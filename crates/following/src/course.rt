@@ -9,7 +9,7 @@ use receive_changes::Happening;
 use registers::accesses::Access;
 
 // Why a word was not there. A place is that of the call that did it.
-#[derive(Drop)]
+#[derive(Clone, Copy)]
 pub enum Reason {
     // No reason: no arrival, or none that was followed to its place.
     NoReason,
