@@ -1,9 +1,9 @@
-// What a program reads, writes and is asked: bytes from a reader, bytes and numbers to a writer, and its arguments. No function here requires
-// anything, and none gives up: a read that fails counts as the end of the input, a write that fails as done in part, and an argument that is
-// missing as empty.
+// What a program reads, writes and is asked: bytes from a reader, bytes and numbers to a writer, and its arguments. No public function requires
+// anything, and none but `open` gives up: a read that fails counts as the end of the input, a write that fails as done in part, and an argument
+// that is missing as empty.
 #![tactic(auto)]
 
-ghost use Rattle.std.specs.Prelude.{◌≡◌, ◌≤◌, IsTrue, decimal as decimal_text, length, take};
+ghost use Rattle.std.specs.Prelude.{◌≡◌, ◌≤◌, IsTrue, decimal as decimal_text, drop, length, take};
 ghost use Rattle.std.specs.Io.KnownBytes.{Appends, Consumes, Keeps};
 ghost use Rattle.streams.specs.Digits.{hex_glyph, hex_text};
 
@@ -54,11 +54,12 @@ pub fn flush<W: Write>(out: &mut W) -> bool
     out.flush().is_ok()
 }
 
-// Puts a number's decimal digits at the start of the room, and answers how many there are.
+// Puts a number's decimal digits at the start of the room, leaves what is behind them, and answers how many there are.
 pub fn decimal(number: u64, digits: &mut [u8; 20]) -> usize
     ensures within { result ≤ 20 }
     ensures part { result ≡ length (take result digits.new) }
     ensures text { take result digits.new ≡ decimal_text number }
+    ensures rest { drop result digits.new ≡ drop result digits.old }
 {
     let mut buffer = itoa::Buffer::new();
     let text = buffer.format(number).as_bytes();
@@ -120,7 +121,7 @@ pub fn argument<E: Env>(env: &E, index: usize, buffer: &mut [u8]) -> usize
     }
 }
 
-// Opens the file of that name for reading.
+// Opens the file of that name for reading. std opens names in UTF-8 alone: another name is refused.
 pub fn open<F: Files>(files: &F, name: &[u8]) -> io::Result<F::File> {
     match std::str::from_utf8(name) {
         Ok(path) => File::open(files, path),
