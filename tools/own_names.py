@@ -1,12 +1,15 @@
 #!/usr/bin/env python3
-"""Lists the names that this repository's definitions, lemmas, record fields and constructors had before the spelling of Rattle's guide
-(docs: CONTRACT_STYLE.md, "Names"), each with its new one, and respells them.
+"""Gives this repository's definitions, lemmas, record fields and constructors the spelling of Rattle's guide (CONTRACT_STYLE.md, "Names"). It ran once, in the
+port to today's Rattle, on what port.py had made (docs/PORT.md), and is not for crates that are turned already.
 
-usage: tools/own_names.py list     the names, old and new, and which new ones stood already
-       tools/own_names.py turn     respells them in crates/*/specs, proofs, src and must-fail, once, after port.py
-       tools/own_names.py docs FILE..   respells the names that stand in those pages
+usage: tools/own_names.py list     the names, old and new
+       tools/own_names.py turn     respells them in crates/*/specs, proofs and src, once, after port.py
 """
-import os, re, sys, json, collections
+import collections
+import os
+import re
+import sys
+
 ROOT = os.path.dirname(os.path.dirname(os.path.abspath(__file__)))
 DECL = re.compile(r"^(\s*)((?:abbrev |unfoldable |pub |package )*)([^\s(){};,:]+) :(?= )", re.M)
 DATA = re.compile(r"^\s*(?:pub )?(?:data|record) (\S+)", re.M)
@@ -101,15 +104,6 @@ def turned(text, names):
     return TOKEN.sub(lambda m: names.get(m.group(0), m.group(0)), text)
 
 
-def pages(names, paths):
-    for p in paths:
-        t = read(p)
-        u = re.sub(r"`[^`\n]+`", lambda m: turned(m.group(0), names), t)
-        if u != t:
-            with open(p, "w", encoding="utf-8") as f:
-                f.write(u)
-
-
 if __name__ == "__main__":
     names = table()
     if sys.argv[1:2] == ["list"]:
@@ -129,7 +123,5 @@ if __name__ == "__main__":
             if u != t:
                 with open(p, "w", encoding="utf-8") as f:
                     f.write(u)
-    elif sys.argv[1:2] == ["docs"]:
-        pages(names, sys.argv[2:])
     else:
         sys.exit(__doc__)
