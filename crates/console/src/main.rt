@@ -12,7 +12,7 @@ ghost use Rattle.console.specs.Labels.{base_at, listed, held};
 use readings::reading::Reading;
 use std::fs::Files;
 use std::io;
-use std::io::{BufWriter, Read, Write};
+use std::io::{Read, Write};
 use text::line::{Asked, Line};
 use text::list::Listed;
 
@@ -183,7 +183,6 @@ fn answer_all(input: &mut impl Read, out: &mut impl Write, list: &[u32]) {
     for _ in 0..u64::MAX {
         let n = streams::read_full(input, &mut buffer);
         read = take_all(out, list, read, &buffer[..n]);
-        streams::flush(out);
         if n < buffer.len() {
             break;
         }
@@ -191,7 +190,6 @@ fn answer_all(input: &mut impl Read, out: &mut impl Write, list: &[u32]) {
     let line = read.line;
     if read.begun {
         answer(out, list, line);
-        streams::flush(out);
     }
 }
 
@@ -260,17 +258,16 @@ fn answer_by(
     }
 }
 
-fn main(rt: HostRuntime) -> io::Result<()> {
+fn main(rt: HostRuntime) {
     let mut path = streams::buffer();
     let length = streams::argument(&rt, 1, &mut path);
     let mut list = room();
     match list_in(&rt, &path[..length], &mut list) {
         Ok(listed) => {
-            let mut out = BufWriter::new(rt.alloc(), rt.stdout())?;
+            let mut out = rt.stdout();
             let mut errors = rt.stderr();
             answer_by(&mut rt.stdin(), &mut out, &mut errors, &mut list, listed);
         }
         Err(error) => streams::fail(&mut rt.stderr(), &path[..length], &error),
     }
-    Ok(())
 }

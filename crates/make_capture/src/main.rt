@@ -11,8 +11,7 @@ ghost use Rattle.sessions.specs.Sessions.{item_bytes, item_at, performed};
 use block::layout::WORDS;
 use frame::layout::{MODULE_WORDS, MOST};
 use sessions::ITEM_BYTES;
-use std::io;
-use std::io::{BufWriter, Read, Write};
+use std::io::{Read, Write};
 
 // The words of twelve channels.
 const NEED: usize = MODULE_WORDS + (MOST as usize) * WORDS;
@@ -55,7 +54,6 @@ fn record_some(input: &mut impl Read, out: &mut impl Write, mem: &mut [u32]) -> 
     let mut buffer = streams::buffer();
     let n = streams::read_full(input, &mut buffer);
     record_all(out, mem, &buffer[..n]);
-    streams::flush(out);
     n == 4096
 }
 
@@ -68,9 +66,8 @@ fn record_input(input: &mut impl Read, out: &mut impl Write, mem: &mut [u32]) {
     }
 }
 
-fn main(rt: HostRuntime) -> io::Result<()> {
-    let mut out = BufWriter::new(rt.alloc(), rt.stdout())?;
+fn main(rt: HostRuntime) {
+    let mut out = rt.stdout();
     let mut mem = memory();
     record_input(&mut rt.stdin(), &mut out, &mut mem);
-    Ok(())
 }

@@ -11,8 +11,7 @@ use block::layout::WORDS;
 use calls::perform::NO_CALL;
 use frame::layout::{MODULE_WORDS, MOST};
 use sessions::ITEM_BYTES;
-use std::io;
-use std::io::{BufWriter, Read, Write};
+use std::io::{Read, Write};
 
 // The words of twelve channels.
 const NEED: usize = MODULE_WORDS + (MOST as usize) * WORDS;
@@ -75,7 +74,6 @@ fn perform_some(input: &mut impl Read, out: &mut impl Write, mem: &mut [u32]) ->
     let mut buffer = streams::buffer();
     let n = streams::read_full(input, &mut buffer);
     perform_all(out, mem, &buffer[..n]);
-    streams::flush(out);
     n == 4096
 }
 
@@ -88,9 +86,8 @@ fn perform_input(input: &mut impl Read, out: &mut impl Write, mem: &mut [u32]) {
     }
 }
 
-fn main(rt: HostRuntime) -> io::Result<()> {
-    let mut out = BufWriter::new(rt.alloc(), rt.stdout())?;
+fn main(rt: HostRuntime) {
+    let mut out = rt.stdout();
     let mut mem = memory();
     perform_input(&mut rt.stdin(), &mut out, &mut mem);
-    Ok(())
 }

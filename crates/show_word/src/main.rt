@@ -4,8 +4,7 @@
 
 ghost use Rattle.std.specs.Prelude.{◌≤◌, length};
 
-use std::io;
-use std::io::{BufWriter, Read, Write};
+use std::io::Write;
 use word_text::Line;
 
 // Writes a number in octal, three digits, as a label is listed.
@@ -106,9 +105,9 @@ fn take_all(out: &mut impl Write, line: &mut [u8], reading: Reading, text: &[u8]
 }
 
 // The loop has more turns than a run uses up.
-fn main(rt: HostRuntime) -> io::Result<()> {
+fn main(rt: HostRuntime) {
     let mut input = rt.stdin();
-    let mut out = BufWriter::new(rt.alloc(), rt.stdout())?;
+    let mut out = rt.stdout();
     let mut buffer = streams::buffer();
     let mut line = [0; 4096];
     let mut reading = Reading {
@@ -119,12 +118,9 @@ fn main(rt: HostRuntime) -> io::Result<()> {
     for _ in 0..u64::MAX {
         let n = streams::read_full(&mut input, &mut buffer);
         reading = take_all(&mut out, &mut line, reading, &buffer[..n]);
-        streams::flush(&mut out);
         if n < buffer.len() {
             break;
         }
     }
     end_line(&mut out, &line, reading);
-    streams::flush(&mut out);
-    Ok(())
 }

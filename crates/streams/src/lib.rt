@@ -4,7 +4,7 @@
 #![tactic(auto)]
 
 ghost use Rattle.std.specs.Prelude.{◌≡◌, ◌≤◌, IsTrue, decimal as decimal_text, drop, length, take};
-ghost use Rattle.std.specs.Io.KnownBytes.{Appends, Consumes, Keeps};
+ghost use Rattle.std.specs.Io.KnownBytes.{Appends, Consumes};
 ghost use Rattle.streams.specs.Digits.{hex_glyph, hex_text};
 
 use std::env::Env;
@@ -45,13 +45,6 @@ pub fn write_all<W: Write>(out: &mut W, bytes: &[u8]) -> bool
     ensures { IsTrue result → Appends (W.contents out.old) (W.contents out.new) bytes.now }
 {
     out.write_all(bytes).is_ok()
-}
-
-// Writes what a writer holds back, and answers whether all of it went out.
-pub fn flush<W: Write>(out: &mut W) -> bool
-    ensures { Keeps (W.contents out.old) (W.contents out.new) }
-{
-    out.flush().is_ok()
 }
 
 // Puts a number's decimal digits at the start of the room, leaves what is behind them, and answers how many there are.
