@@ -7,16 +7,14 @@ ghost use Rattle.capture.specs.Write.{written, bytes_after};
 use capture::Cursor;
 
 // The kind of the record at an offset; 0 at the end and beside a refusal.
-#[unsafe(no_mangle)]
-pub extern "C" fn nqabelihu_capture_kind(bytes: &[u8], offset: usize) -> u32
+pub fn nqabelihu_capture_kind(bytes: &[u8], offset: usize) -> u32
     ensures { result ≡ (seen_at bytes.now offset).kind }
 {
     capture::reading::look(bytes, Cursor { offset: offset }).kind
 }
 
 // The offset behind the record at an offset; the same offset at the end and beside a refusal.
-#[unsafe(no_mangle)]
-pub extern "C" fn nqabelihu_capture_offset(bytes: &[u8], offset: usize) -> usize
+pub fn nqabelihu_capture_offset(bytes: &[u8], offset: usize) -> usize
     ensures { result ≡ (seen_at bytes.now offset).next.offset }
 {
     let next = capture::reading::look(bytes, Cursor { offset: offset }).next;
@@ -24,8 +22,7 @@ pub extern "C" fn nqabelihu_capture_offset(bytes: &[u8], offset: usize) -> usize
 }
 
 // The refusal of the record at an offset, 20 to 23; 0 for a record and at the end.
-#[unsafe(no_mangle)]
-pub extern "C" fn nqabelihu_capture_refusal(bytes: &[u8], offset: usize) -> u32
+pub fn nqabelihu_capture_refusal(bytes: &[u8], offset: usize) -> u32
     ensures { result ≡ (seen_at bytes.now offset).number }
 {
     capture::reading::look(bytes, Cursor { offset: offset }).number
@@ -33,8 +30,7 @@ pub extern "C" fn nqabelihu_capture_refusal(bytes: &[u8], offset: usize) -> u32
 
 // Reads the record at an offset: the result is the number, an image fills the first of `commands`, and the others take the
 // record's kind, the offset behind it, its channel, and an arrival's word and stamp.
-#[unsafe(no_mangle)]
-pub extern "C" fn nqabelihu_capture_read(
+pub fn nqabelihu_capture_read(
     bytes: &[u8],
     offset: usize,
     commands: &mut [u32],
@@ -62,8 +58,7 @@ pub extern "C" fn nqabelihu_capture_read(
 }
 
 // Writes a record at an offset: the result is the number, and `next` takes the offset behind the record, 0 beside a refusal.
-#[unsafe(no_mangle)]
-pub extern "C" fn nqabelihu_capture_write(
+pub fn nqabelihu_capture_write(
     bytes: &mut [u8],
     offset: usize,
     kind: u32,

@@ -20,8 +20,7 @@ const VALUES: usize = 7;
 const FEW_VALUES: u32 = 24;
 
 // The words of memory that a module of `count` channels needs; 0 where a module cannot have so many channels.
-#[unsafe(no_mangle)]
-pub extern "C" fn nqabelihu_words(count: u32) -> usize
+pub fn nqabelihu_words(count: u32) -> usize
     ensures { result ≡ host_words count }
 {
     if count < 1 {
@@ -34,8 +33,7 @@ pub extern "C" fn nqabelihu_words(count: u32) -> usize
 }
 
 // The label of a word, bits 1 to 8: written in octal it is the number that the documents list.
-#[unsafe(no_mangle)]
-pub extern "C" fn nqabelihu_label(word: u32) -> u32
+pub fn nqabelihu_label(word: u32) -> u32
     ensures { result ≡ label word }
 {
     word::label(word) as u32
@@ -43,8 +41,7 @@ pub extern "C" fn nqabelihu_label(word: u32) -> u32
 
 // Performs the item `op channel a b` on a module's memory: the result is the answer's number, and `values` takes the answer's values, zeros
 // where it has fewer. With fewer than seven words lent for the values the result is 24 and nothing is changed.
-#[unsafe(no_mangle)]
-pub extern "C" fn nqabelihu_perform(
+pub fn nqabelihu_perform(
     mem: &mut [u32],
     values: &mut [u32],
     op: u32,

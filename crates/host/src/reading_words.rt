@@ -4,13 +4,7 @@ ghost use Rattle.readings.specs.Reading.{whole, reading, number_of, kind_of, uni
 ghost use Rattle.readings.specs.Encoding.{encoded};
 
 // What a word reads as: the result is the number, `kind` takes 1 to 3 and `units` the value as a double; zeros beside a refusal.
-#[unsafe(no_mangle)]
-pub extern "C" fn nqabelihu_read_word(
-    list: &[u32],
-    word: u32,
-    kind: &mut u32,
-    units: &mut f64,
-) -> u32
+pub fn nqabelihu_read_word(list: &[u32], word: u32, kind: &mut u32, units: &mut f64) -> u32
     ensures number { result ≡ number_of (reading list.now word) }
     ensures kind { kind.new ≡ kind_of (reading list.now word) }
     ensures units { units.new ≡ units_of (reading list.now word) }
@@ -22,16 +16,14 @@ pub extern "C" fn nqabelihu_read_word(
 }
 
 // The whole number in a word, binary undivided; 0 beside a refusal.
-#[unsafe(no_mangle)]
-pub extern "C" fn nqabelihu_whole_number(list: &[u32], word: u32) -> i32
+pub fn nqabelihu_whole_number(list: &[u32], word: u32) -> i32
     ensures { result ≡ (whole list.now word).value }
 {
     readings::reading::whole(list, word).value
 }
 
 // The word with a whole number in it: the result is the number, and `result` takes the word, 0 beside a refusal.
-#[unsafe(no_mangle)]
-pub extern "C" fn nqabelihu_encode_word(list: &[u32], word: u32, value: i32, res: &mut u32) -> u32
+pub fn nqabelihu_encode_word(list: &[u32], word: u32, value: i32, res: &mut u32) -> u32
     ensures number { result ≡ (encoded list.now word value).number }
     ensures word { res.new ≡ (encoded list.now word value).word }
 {

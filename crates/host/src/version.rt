@@ -9,8 +9,7 @@ const MINOR: u32 = 1;
 const PATCH: u32 = 0;
 
 // The version as one number.
-#[unsafe(no_mangle)]
-pub extern "C" fn nqabelihu_version() -> u32
+pub fn nqabelihu_version() -> u32
     ensures { result ≡ version }
 {
     10000 * MAJOR + 100 * MINOR + PATCH
