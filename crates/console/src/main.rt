@@ -3,16 +3,16 @@
 // whole decimal number, is encoded. One line is written for each.
 #![tactic(auto)]
 
-ghost use Rattle.std.specs.Prelude.{◌≡◌, T};
+ghost use Rattle.std.specs.Prelude.{◌≡◌, T, IfOk, IsUtf8};
 ghost use Rattle.std.specs.Float.Ieee as Ieee;
 ghost use Rattle.std.specs.Float.{binary64};
 ghost use Rattle.readings.specs.Units.{scaled};
 ghost use Rattle.console.specs.Labels.{base_at, listed, held};
 
 use readings::reading::Reading;
-use std::fs::Files;
+use std::fs::{File, Files};
 use std::io;
-use std::io::{Read, Write};
+use std::io::{Cursor, Error, ErrorKind, Read, Write};
 use text::line::{Asked, Line};
 use text::list::Listed;
 
@@ -232,9 +232,42 @@ fn read_list(list: &mut [u32], file: &mut impl Read) -> Listed {
     text::list::stored(list, at)
 }
 
+// Opens the file of that name for reading. std opens names in UTF-8 alone: another name is refused.
+fn open<F: Files>(files: &F, name: &[u8]) -> io::Result<F::File>
+    ensures { IfOk result (λ _. IsUtf8 name.now) }
+{
+    match std::str::from_utf8(name) {
+        Ok(path) => File::open(files, path),
+        Err(_) => Err(Error::new(ErrorKind::InvalidFilename, "the name is no text in UTF-8")),
+    }
+}
+
+// Writes a line: what failed, a colon and why, in the system's words, without the number that std writes behind them.
+fn fail<W: Write>(out: &mut W, what: &[u8], error: &Error) {
+    let mut text = Cursor::new([0u8; 256]);
+    let _ = write!(text, "{error}");
+    let count = text.position().min(256) as usize;
+    let bytes = text.into_inner();
+    streams::write_all(out, what);
+    streams::write_all(out, b": ");
+    streams::write_all(out, words(&bytes[..count]));
+    streams::write_all(out, b"\n");
+}
+
+// The words of a text before the number of the system's error.
+fn words(text: &[u8]) -> &[u8] {
+    match std::str::from_utf8(text) {
+        Ok(text) => match text.split_once(" (os error ") {
+            Some((words, _)) => words.as_bytes(),
+            None => text.as_bytes(),
+        },
+        Err(_) => text,
+    }
+}
+
 // The numbers of the file of that name, which is closed again.
 fn list_in(files: &impl Files, name: &[u8], list: &mut [u32]) -> io::Result<Listed> {
-    let mut file = streams::open(files, name)?;
+    let mut file = open(files, name)?;
     Ok(read_list(list, &mut file))
 }
 
@@ -268,6 +301,6 @@ fn main(rt: HostRuntime) {
             let mut errors = rt.stderr();
             answer_by(&mut rt.stdin(), &mut out, &mut errors, &mut list, listed);
         }
-        Err(error) => streams::fail(&mut rt.stderr(), &path[..length], &error),
+        Err(error) => fail(&mut rt.stderr(), &path[..length], &error),
     }
 }

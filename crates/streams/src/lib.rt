@@ -1,5 +1,5 @@
 // What a program reads, writes and is asked: bytes from a reader, bytes and numbers to a writer, and its arguments. No public function requires
-// anything, and none but `open` gives up: a read that fails counts as the end of the input, a write that fails as done in part, and an argument
+// anything, and none gives up: a read that fails counts as the end of the input, a write that fails as done in part, and an argument
 // that is missing as empty.
 #![tactic(auto)]
 
@@ -8,9 +8,7 @@ ghost use Rattle.std.specs.Io.KnownBytes.{Appends, Consumes};
 ghost use Rattle.streams.specs.Digits.{hex_glyph, hex_text};
 
 use std::env::Env;
-use std::fs::{File, Files};
-use std::io;
-use std::io::{Cursor, Error, ErrorKind, Read, Write};
+use std::io::{Read, Write};
 
 // Room for a part of the input, all zeros.
 pub fn buffer() -> [u8; 4096]
@@ -111,36 +109,5 @@ pub fn argument<E: Env>(env: &E, index: usize, buffer: &mut [u8]) -> usize
     match env.arg(index, buffer) {
         Ok(count) => count,
         Err(_) => 0,
-    }
-}
-
-// Opens the file of that name for reading. std opens names in UTF-8 alone: another name is refused.
-pub fn open<F: Files>(files: &F, name: &[u8]) -> io::Result<F::File> {
-    match std::str::from_utf8(name) {
-        Ok(path) => File::open(files, path),
-        Err(_) => Err(Error::new(ErrorKind::InvalidFilename, "the name is no text in UTF-8")),
-    }
-}
-
-// Writes a line: what failed, a colon and why, in the system's words, without the number that std writes behind them.
-pub fn fail<W: Write>(out: &mut W, what: &[u8], error: &Error) {
-    let mut text = Cursor::new([0u8; 256]);
-    let _ = write!(text, "{error}");
-    let count = text.position().min(256) as usize;
-    let bytes = text.into_inner();
-    write_all(out, what);
-    write_all(out, b": ");
-    write_all(out, words(&bytes[..count]));
-    write_all(out, b"\n");
-}
-
-// The words of a text before the number of the system's error.
-fn words(text: &[u8]) -> &[u8] {
-    match std::str::from_utf8(text) {
-        Ok(text) => match text.split_once(" (os error ") {
-            Some((words, _)) => words.as_bytes(),
-            None => text.as_bytes(),
-        },
-        Err(_) => text,
     }
 }
