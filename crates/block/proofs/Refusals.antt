@@ -6,7 +6,9 @@ use mathlib.Core.Bool.{Bool, true, false, cond}
 use native.Mathlib.Omega.{arith}
 use borrow.Author.Tests.{eq-eqb, ne_eqb, eqb-true, eqb-false}
 use lib.Dec.{eqb}
-use Rattle.block.specs.Refusals.{first}
+use Rattle.block.specs.Refusals.{first, refusal_number}
+use Rattle.block.specs.declared.refusal.Refusal.{Refusal}
+use Rattle.block.specs.declared.refusal.Refusal.TheVariants.{Short, Unsound, Channel, Range, Mode, Full, Empty, NotAligned, NoRegister, WrongWay}
 
 -- a test that would have refused was false, and the rest refuses nothing
 pub past : (t : Bool) (k r : ℕ) → cond t (suc k) r ≡ 0 → (t ≡ false) × (r ≡ 0)
@@ -27,3 +29,20 @@ is_one a b r e refuses = e ∙ sym (ap (λ (t : Bool). cond t b a) (ne_eqb a 0 (
 
 pub is_other : (a b r : ℕ) → a ≡ 0 → r ≡ b → r ≡ first a b
 is_other a b r z e = rw (eq-eqb a 0 z) e
+
+-- no refusal has the number 0
+pub numbered : (r : Refusal) → refusal_number r ≡ 0 → ⊥
+numbered Short e = omega arith
+numbered Unsound e = omega arith
+numbered Channel e = omega arith
+numbered Range e = omega arith
+numbered Mode e = omega arith
+numbered Full e = omega arith
+numbered Empty e = omega arith
+numbered NotAligned e = omega arith
+numbered NoRegister e = omega arith
+numbered WrongWay e = omega arith
+
+-- the refusal of the first test is passed on
+pub passed_on : (r : Refusal) (a b : ℕ) → refusal_number r ≡ a → refusal_number r ≡ first a b
+passed_on r a b e = is_one a b (refusal_number r) e (numbered r)

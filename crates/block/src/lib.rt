@@ -4,3 +4,4 @@
 pub mod layout;
 pub mod modes;
 pub mod ranges;
+pub mod refusal;

@@ -2,12 +2,14 @@
 ghost use Rattle.std.specs.Prelude.{◌≡◌, ◌≤◌, length};
 ghost use Rattle.block.specs.Layout.{word};
 ghost use Rattle.block.specs.Ranges.{sound};
+ghost use Rattle.block.specs.Refusals.{number_of};
 ghost use Rattle.frame.specs.Layout.{count, Framed, block};
 ghost use Rattle.frame.specs.Refusals.{sound_to, wide_refusal};
 
 use crate::layout::{COUNT, MODULE_WORDS};
 use crate::refusals::part_refusal;
 use block::layout::WORDS;
+use block::refusal::Refusal;
 
 // Whether a channel's block is sound.
 fn is_channel_sound(mem: &[u32], channel: u32) -> bool
@@ -26,24 +28,19 @@ fn are_sound(mem: &[u32]) -> bool
 {
     let count = mem[COUNT];
     let mut sound = true;
-    let mut tested = 0;
-    while tested < count {
+    for tested in 0..count {
         sound = sound & is_channel_sound(mem, tested + 1);
-        tested += 1;
     }
     sound
 }
 
 // The refusal for what the memory holds.
-pub fn wide_refusal(mem: &[u32]) -> u32
-    ensures { result ≡ wide_refusal mem.now }
+pub fn wide_refusal(mem: &[u32]) -> Result<(), Refusal>
+    ensures { number_of result ≡ wide_refusal mem.now }
 {
-    let part = part_refusal(mem);
-    if part == 0 {
-        if are_sound(mem) {
-            return 0;
-        }
-        return 2;
+    part_refusal(mem)?;
+    if are_sound(mem) {
+        return Ok(());
     }
-    part
+    Err(Refusal::Unsound)
 }

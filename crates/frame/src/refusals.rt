@@ -1,12 +1,14 @@
-// When a module's memory is refused: 1 short, 2 unsound, 3 channel, or 0 for none.
+// When a module's memory is refused: short, unsound, or no such channel.
 ghost use Rattle.std.specs.Prelude.{◌≡◌, ◌≤◌, ◌<◌, length};
 ghost use Rattle.block.specs.Ranges.{within};
+ghost use Rattle.block.specs.Refusals.{number_of};
 ghost use Rattle.frame.specs.Layout.{module_words};
 ghost use Rattle.frame.specs.Refusals.{frame_refusal, part_leasts, part_greatests, part_sound, part_refusal, address_refusal};
 
 use crate::counters::TOP;
 use crate::layout::{COUNT, LAYOUT_NUMBER, MODULE_WORDS, MOST};
 use block::layout::WORDS;
+use block::refusal::Refusal;
 
 // The ranges of the module part's settings.
 pub const RESOLUTION_GREATEST: u32 = 3;
@@ -56,23 +58,23 @@ const GREATEST: [u32; MODULE_WORDS] = [
 ];
 
 // The refusal of memory that is too short, or whose stored count is outside 1 to 12.
-fn frame_refusal(mem: &[u32]) -> u32
-    ensures { result ≡ frame_refusal mem.now }
+fn frame_refusal(mem: &[u32]) -> Result<(), Refusal>
+    ensures { number_of result ≡ frame_refusal mem.now }
 {
     if mem.len() < MODULE_WORDS {
-        return 1;
+        return Err(Refusal::Short);
     }
     let count = mem[COUNT];
     if count < 1 {
-        return 2;
+        return Err(Refusal::Unsound);
     }
     if MOST < count {
-        return 2;
+        return Err(Refusal::Unsound);
     }
     if mem.len() < MODULE_WORDS + (count as usize) * WORDS {
-        return 1;
+        return Err(Refusal::Short);
     }
-    0
+    Ok(())
 }
 
 // Whether a number is in the range of a word of the module part: stored numbers and arguments have the same.
@@ -89,46 +91,38 @@ fn is_part_sound(mem: &[u32]) -> bool
     ensures { result ≡ part_sound mem.now }
 {
     let mut sound = true;
-    let mut at = 0;
-    while at < MODULE_WORDS {
+    for at in 0..MODULE_WORDS {
         sound = sound & in_part(at, mem[at]);
-        at += 1;
     }
     sound
 }
 
 // The refusal of memory that is short or whose module part is unsound.
-pub fn part_refusal(mem: &[u32]) -> u32
-    ensures { result ≡ part_refusal mem.now }
+pub fn part_refusal(mem: &[u32]) -> Result<(), Refusal>
+    ensures { number_of result ≡ part_refusal mem.now }
 {
-    let frame = frame_refusal(mem);
-    if frame == 0 {
-        if is_part_sound(mem) {
-            return 0;
-        }
-        return 2;
+    frame_refusal(mem)?;
+    if is_part_sound(mem) {
+        return Ok(());
     }
-    frame
+    Err(Refusal::Unsound)
 }
 
 // The refusal of a call on a channel by its number, or for what the memory holds.
-pub fn address_refusal(mem: &[u32], channel: u32) -> u32
-    ensures { result ≡ address_refusal mem.now channel }
+pub fn address_refusal(mem: &[u32], channel: u32) -> Result<(), Refusal>
+    ensures { number_of result ≡ address_refusal mem.now channel }
 {
-    let part = part_refusal(mem);
-    if part == 0 {
-        if channel < 1 {
-            return 3;
-        }
-        if mem[COUNT] < channel {
-            return 3;
-        }
-        let from = MODULE_WORDS + ((channel - 1) as usize) * WORDS;
-        let to = from + WORDS;
-        if block::ranges::is_sound(&mem[from..to]) {
-            return 0;
-        }
-        return 2;
+    part_refusal(mem)?;
+    if channel < 1 {
+        return Err(Refusal::Channel);
     }
-    part
+    if mem[COUNT] < channel {
+        return Err(Refusal::Channel);
+    }
+    let from = MODULE_WORDS + ((channel - 1) as usize) * WORDS;
+    let to = from + WORDS;
+    if block::ranges::is_sound(&mem[from..to]) {
+        return Ok(());
+    }
+    Err(Refusal::Unsound)
 }

@@ -1,27 +1,26 @@
 // Writing the twelve settings. A setting's number is its offset in the block.
 ghost use Rattle.std.specs.Prelude.{◌≡◌, ◌<◌};
 ghost use Rattle.block.specs.Layout.{Whole, settings};
+ghost use Rattle.block.specs.Refusals.{number_of};
 ghost use Rattle.settings.specs.Settings.{setting_refusal, receive_mode_written, transmit_mode_written, transmitter_written, written};
 
 use block::layout::{RECEIVE_LEVEL, RECEIVE_MODE, RECEIVE_SIZE, TRANSMIT_MODE, TRANSMITTER};
 use block::ranges::in_range;
+use block::refusal::Refusal;
 use fifos::clearing::{clear_receive, forget};
 
-// The refusal of a value for a setting, or 0.
-pub fn write_refusal(block: &[u32], setting: usize, value: u32) -> u32
+// Whether a value may be written to a setting: it is in the setting's range, and a receive FIFO size not below the present level.
+pub fn write_refusal(block: &[u32], setting: usize, value: u32) -> Result<(), Refusal>
     requires { (Whole block.now) × (setting < settings) }
-    ensures { result ≡ setting_refusal setting value block.now }
+    ensures { number_of result ≡ setting_refusal setting value block.now }
 {
-    if in_range(setting, value) {
-        if setting == RECEIVE_SIZE {
-            if value < block[RECEIVE_LEVEL] {
-                return 5;
-            }
-            return 0;
-        }
-        return 0;
+    if !in_range(setting, value) {
+        return Err(Refusal::Range);
     }
-    4
+    if setting == RECEIVE_SIZE && value < block[RECEIVE_LEVEL] {
+        return Err(Refusal::Mode);
+    }
+    Ok(())
 }
 
 // A change of receive mode clears the receive FIFO.

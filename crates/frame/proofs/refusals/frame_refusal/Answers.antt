@@ -2,16 +2,11 @@
 -- Assumes nothing.
 use Rattle.word.proofs.Branches.{branches}
 use Rattle.frame.specs.Refusals.{frame_of}
-use borrow.Author.Rules.{rules}
 use Rattle.frame.proofs.refusals.frame_refusal.Goals as goal
 
 pub returns-then-mem-lt-MODULE_WORDS : goal.returns-then-mem-lt-MODULE_WORDS
 unfolding frame_of
 returns-then-mem-lt-MODULE_WORDS c = search branches
-
-pub bounds-mem-0 : goal.bounds-mem-0
-unfolding frame_of
-bounds-mem-0 c = search rules
 
 pub returns-then-count-lt1 : goal.returns-then-count-lt1
 unfolding frame_of
@@ -20,18 +15,6 @@ returns-then-count-lt1 c = search branches
 pub returns-then-count-gt-MOST : goal.returns-then-count-gt-MOST
 unfolding frame_of
 returns-then-count-gt-MOST c = search branches
-
-pub overflow_cast-count : goal.overflow_cast-count
-unfolding frame_of
-overflow_cast-count c = search rules
-
-pub overflow_mul-count : goal.overflow_mul-count
-unfolding frame_of
-overflow_mul-count c = search rules
-
-pub overflow_add-count : goal.overflow_add-count
-unfolding frame_of
-overflow_add-count c = search rules
 
 pub returns-then-mem-count : goal.returns-then-mem-count
 unfolding frame_of
