@@ -3,11 +3,13 @@
 
 ghost use Rattle.std.specs.Prelude.{◌≡◌, ◌++◌, ◌≤◌, length, take, drop, replicate};
 ghost use Rattle.block.specs.Layout.{word};
+ghost use Rattle.block.specs.Refusals.{number_of};
 ghost use Rattle.settings.specs.Factory.{nonzero_to_factory};
 ghost use Rattle.frame.specs.Layout.{count, layout, module_words, most, need, block, with_block};
 ghost use Rattle.power.specs.Power.{part_with, factory_part, factory_blocks, power_refusal, power_after};
 
 use block::layout::WORDS;
+use block::refusal::Refusal;
 use frame::layout::{
     COUNT, COUNTERS, LAYOUT, LAYOUT_NUMBER, MODULE_WORDS, MOST, RESOLUTION, STAMP, THRESHOLD, need,
 };
@@ -47,17 +49,6 @@ fn start_part(mem: &mut [u32], count: u32)
     fill_part(mem);
 }
 
-// Fills words with zeros.
-fn zero(words: &mut [u32])
-    ensures { words.new ≡ replicate (length words.old) 0 }
-{
-    let mut at = 0;
-    while at < words.len() {
-        words[at] = 0;
-        at += 1;
-    }
-}
-
 // Puts a channel's settings to their factory values, where all of its block is zeros.
 fn set_channel(mem: &mut [u32], channel: u32)
     requires { (1 ≤ channel) × (need channel ≤ length mem.old) }
@@ -74,29 +65,27 @@ fn fill_channels(mem: &mut [u32], count: u32)
     ensures { mem.new ≡ take module_words mem.old ++ (factory_blocks count ++ drop (need count) mem.old) }
 {
     let to = need(count);
-    zero(&mut mem[MODULE_WORDS..to]);
-    let mut channel = 0;
-    while channel < count {
-        channel += 1;
-        set_channel(mem, channel);
+    mem[MODULE_WORDS..to].fill(0);
+    for channel in 0..count {
+        set_channel(mem, channel + 1);
     }
 }
 
-// Powers a module of `count` channels up; answers the refusal's number, or 0 for done.
-pub fn power_up(mem: &mut [u32], count: u32) -> u32
-    ensures refusal { result ≡ power_refusal count (length mem.old) }
+// Powers a module of `count` channels up.
+pub fn power_up(mem: &mut [u32], count: u32) -> Result<(), Refusal>
+    ensures refusal { number_of result ≡ power_refusal count (length mem.old) }
     ensures after { mem.new ≡ power_after count mem.old }
 {
     if count < 1 {
-        return 4;
+        return Err(Refusal::Range);
     }
     if MOST < count {
-        return 4;
+        return Err(Refusal::Range);
     }
     if mem.len() < need(count) {
-        return 1;
+        return Err(Refusal::Short);
     }
     fill_channels(mem, count);
     start_part(mem, count);
-    0
+    Ok(())
 }

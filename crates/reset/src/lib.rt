@@ -3,11 +3,13 @@
 
 ghost use Rattle.std.specs.Prelude.{◌≡◌, ◌≤◌, length};
 ghost use Rattle.block.specs.Layout.{word};
+ghost use Rattle.block.specs.Refusals.{number_of};
 ghost use Rattle.frame.specs.Layout.{count, need, Framed, with_block};
 ghost use Rattle.frame.specs.Refusals.{wide_refusal};
 ghost use Rattle.reset.specs.Reset.{reset_channel, reset_to, reset_after};
 
 use block::layout::WORDS;
+use block::refusal::Refusal;
 use frame::layout::{COUNT, MODULE_WORDS};
 
 // Resets a channel's block.
@@ -26,23 +28,18 @@ fn reset_channels(mem: &mut [u32])
     ensures { mem.new ≡ reset_to (word mem.old count) mem.old }
 {
     let count = mem[COUNT];
-    let mut channel = 0;
-    while channel < count {
-        channel += 1;
-        reset_channel(mem, channel);
+    for channel in 0..count {
+        reset_channel(mem, channel + 1);
     }
 }
 
-// Resets a module; answers the refusal's number, or 0 for done.
-pub fn reset(mem: &mut [u32]) -> u32
-    ensures refusal { result ≡ wide_refusal mem.old }
+// Resets a module.
+pub fn reset(mem: &mut [u32]) -> Result<(), Refusal>
+    ensures refusal { number_of result ≡ wide_refusal mem.old }
     ensures after { mem.new ≡ reset_after mem.old }
 {
-    let refusal = frame::channels::wide_refusal(mem);
-    if refusal != 0 {
-        return refusal;
-    }
+    frame::channels::wide_refusal(mem)?;
     reset_channels(mem);
     power::fill_part(mem);
-    0
+    Ok(())
 }
