@@ -1,8 +1,8 @@
-// When a call on a sound channel is refused, and by which number: 4 range, 5 mode, 6 full, 7 empty, or 0 for none.
+// When a call on a sound channel is refused: for a range or a mode, full or empty.
 ghost use Rattle.std.specs.Prelude.{◌≡◌, ◌<◌};
 ghost use Rattle.block.specs.Layout.{Whole, settings};
 ghost use Rattle.block.specs.Ranges.{Usable};
-ghost use Rattle.block.specs.Refusals.{first};
+ghost use Rattle.block.specs.Refusals.{number_of, refusal_number};
 ghost use Rattle.channel_calls.specs.Answers.{setting_number};
 ghost use Rattle.channel_calls.specs.Refusals.{above, below, setting_call_refusal, memory_call_refusal, status_call_refusal, test_call_refusal, receive_call_refusal, transmit_call_refusal, channel_refusal};
 
@@ -12,37 +12,28 @@ use crate::calls::{
 use block::layout::LAST_INDEX;
 use block::modes::SCHEDULED;
 use block::ranges::ALL_CONDITIONS;
+use block::refusal::Refusal;
 use ring::LAST_SLOT;
 use schedule::{LAST, LAST_MESSAGE};
 
-// The number where `x` is above the limit, else 0.
-fn above(limit: u32, x: u32, number: u32) -> u32
-    ensures { result ≡ above limit x number }
+// Refuses an `x` above the limit.
+fn above(limit: u32, x: u32, refusal: Refusal) -> Result<(), Refusal>
+    ensures { number_of result ≡ above limit x (refusal_number refusal) }
 {
     if limit < x {
-        return number;
+        return Err(refusal);
     }
-    0
+    Ok(())
 }
 
-// The number where `x` is below the limit, else 0.
-fn below(limit: u32, x: u32, number: u32) -> u32
-    ensures { result ≡ below limit x number }
+// Refuses an `x` below the limit.
+fn below(limit: u32, x: u32, refusal: Refusal) -> Result<(), Refusal>
+    ensures { number_of result ≡ below limit x (refusal_number refusal) }
 {
     if x < limit {
-        return number;
+        return Err(refusal);
     }
-    0
-}
-
-// The first refusal that applies.
-fn first(a: u32, b: u32) -> u32
-    ensures { result ≡ first a b }
-{
-    if a == 0 {
-        return b;
-    }
-    a
+    Ok(())
 }
 
 // A setting's number.
@@ -66,9 +57,9 @@ pub fn setting_number(setting: Setting) -> usize
     }
 }
 
-fn setting_refusal(block: &[u32], call: SettingCall) -> u32
+fn setting_refusal(block: &[u32], call: SettingCall) -> Result<(), Refusal>
     requires { Whole block.now }
-    ensures { result ≡ setting_call_refusal call block.now }
+    ensures { number_of result ≡ setting_call_refusal call block.now }
 {
     match call {
         SettingCall::WriteSetting(setting, value) => settings::writing::write_refusal(
@@ -76,89 +67,89 @@ fn setting_refusal(block: &[u32], call: SettingCall) -> u32
             setting_number(setting),
             value,
         ),
-        SettingCall::ReadSetting(_) => 0,
+        SettingCall::ReadSetting(_) => Ok(()),
     }
 }
 
-fn memory_refusal(call: MemoryCall) -> u32
-    ensures { result ≡ memory_call_refusal call }
+fn memory_refusal(call: MemoryCall) -> Result<(), Refusal>
+    ensures { number_of result ≡ memory_call_refusal call }
 {
     match call {
-        MemoryCall::WriteMatch(index, mark) => first(
-            above(LAST_INDEX, index, 4),
-            above(1, mark, 4),
-        ),
-        MemoryCall::ReadMatch(index) => above(LAST_INDEX, index, 4),
-        MemoryCall::WriteSchedule(address, _) => above(LAST, address, 4),
-        MemoryCall::ReadSchedule(address) => above(LAST, address, 4),
-        MemoryCall::WriteMessage(address, _) => above(LAST_MESSAGE, address, 4),
-        MemoryCall::ReadMessage(address) => above(LAST_MESSAGE, address, 4),
+        MemoryCall::WriteMatch(index, mark) => {
+            above(LAST_INDEX, index, Refusal::Range)?;
+            above(1, mark, Refusal::Range)
+        }
+        MemoryCall::ReadMatch(index) => above(LAST_INDEX, index, Refusal::Range),
+        MemoryCall::WriteSchedule(address, _) => above(LAST, address, Refusal::Range),
+        MemoryCall::ReadSchedule(address) => above(LAST, address, Refusal::Range),
+        MemoryCall::WriteMessage(address, _) => above(LAST_MESSAGE, address, Refusal::Range),
+        MemoryCall::ReadMessage(address) => above(LAST_MESSAGE, address, Refusal::Range),
     }
 }
 
-fn status_refusal(call: StatusCall) -> u32
-    ensures { result ≡ status_call_refusal call }
+fn status_refusal(call: StatusCall) -> Result<(), Refusal>
+    ensures { number_of result ≡ status_call_refusal call }
 {
     match call {
-        StatusCall::ReadStatus => 0,
-        StatusCall::ClearLatch(mask) => above(ALL_CONDITIONS, mask, 4),
-        StatusCall::WriteEnable(mask) => above(ALL_CONDITIONS, mask, 4),
-        StatusCall::ReadEnable => 0,
-        StatusCall::WriteLevelMask(mask) => above(ALL_CONDITIONS, mask, 4),
-        StatusCall::ReadLevelMask => 0,
-        StatusCall::ReadPending => 0,
+        StatusCall::ReadStatus => Ok(()),
+        StatusCall::ClearLatch(mask) => above(ALL_CONDITIONS, mask, Refusal::Range),
+        StatusCall::WriteEnable(mask) => above(ALL_CONDITIONS, mask, Refusal::Range),
+        StatusCall::ReadEnable => Ok(()),
+        StatusCall::WriteLevelMask(mask) => above(ALL_CONDITIONS, mask, Refusal::Range),
+        StatusCall::ReadLevelMask => Ok(()),
+        StatusCall::ReadPending => Ok(()),
     }
 }
 
-fn test_refusal(call: TestCall) -> u32
-    ensures { result ≡ test_call_refusal call }
+fn test_refusal(call: TestCall) -> Result<(), Refusal>
+    ensures { number_of result ≡ test_call_refusal call }
 {
     match call {
-        TestCall::Sample(result) => above(1, result, 4),
-        TestCall::ResetTest => 0,
-        TestCall::InitiateTest(result) => above(1, result, 4),
+        TestCall::Sample(result) => above(1, result, Refusal::Range),
+        TestCall::ResetTest => Ok(()),
+        TestCall::InitiateTest(result) => above(1, result, Refusal::Range),
     }
 }
 
-fn receive_refusal(block: &[u32], call: ReceiveCall) -> u32
+fn receive_refusal(block: &[u32], call: ReceiveCall) -> Result<(), Refusal>
     requires { Whole block.now }
-    ensures { result ≡ receive_call_refusal call block.now }
+    ensures { number_of result ≡ receive_call_refusal call block.now }
 {
     match call {
-        ReceiveCall::Arrive(_) => 0,
-        ReceiveCall::ReadFifo => below(1, block[block::layout::RECEIVE_LEVEL], 7),
-        ReceiveCall::ReadMailbox(index) => above(LAST_INDEX, index, 4),
+        ReceiveCall::Arrive(_) => Ok(()),
+        ReceiveCall::ReadFifo => below(1, block[block::layout::RECEIVE_LEVEL], Refusal::Empty),
+        ReceiveCall::ReadMailbox(index) => above(LAST_INDEX, index, Refusal::Range),
     }
 }
 
-fn transmit_refusal(block: &[u32], call: TransmitCall) -> u32
+fn transmit_refusal(block: &[u32], call: TransmitCall) -> Result<(), Refusal>
     requires { Whole block.now }
-    ensures { result ≡ transmit_call_refusal call block.now }
+    ensures { number_of result ≡ transmit_call_refusal call block.now }
 {
     match call {
-        TransmitCall::WriteFifo(_) => above(LAST_SLOT, block[block::layout::TRANSMIT_LEVEL], 6),
-        TransmitCall::WriteAsync(_) => first(
-            below(SCHEDULED, block[block::layout::TRANSMIT_MODE], 5),
-            above(0, block[block::layout::ASYNC_MARK], 6),
-        ),
-        TransmitCall::Trigger => below(1, block[block::layout::TRANSMITTER], 5),
-        TransmitCall::Pause => 0,
-        TransmitCall::Stop => 0,
-        TransmitCall::Step => 0,
+        TransmitCall::WriteFifo(_) => above(LAST_SLOT, block[block::layout::TRANSMIT_LEVEL], Refusal::Full),
+        TransmitCall::WriteAsync(_) => {
+            below(SCHEDULED, block[block::layout::TRANSMIT_MODE], Refusal::Mode)?;
+            above(0, block[block::layout::ASYNC_MARK], Refusal::Full)
+        }
+        TransmitCall::Trigger => below(1, block[block::layout::TRANSMITTER], Refusal::Mode),
+        TransmitCall::Pause => Ok(()),
+        TransmitCall::Stop => Ok(()),
+        TransmitCall::Step => Ok(()),
     }
 }
 
-// The refusal of a call on a sound channel, or 0.
-pub fn refusal(block: &[u32], call: ChannelCall) -> u32
+// Refuses a call on a sound channel, or not.
+pub fn refusal(block: &[u32], call: ChannelCall) -> Result<(), Refusal>
     requires { Usable block.now }
-    ensures { result ≡ channel_refusal call block.now }
+    ensures { number_of result ≡ channel_refusal call block.now }
 {
     match call {
         ChannelCall::Settings(k) => setting_refusal(block, k),
         ChannelCall::Memories(k) => memory_refusal(k),
         ChannelCall::Status(k) => status_refusal(k),
         ChannelCall::Tests(k) => test_refusal(k),
-        ChannelCall::Reads(_) => 0,
+        ChannelCall::Reads(_) => Ok(()),
         ChannelCall::Receive(k) => receive_refusal(block, k),
         ChannelCall::Transmit(k) => transmit_refusal(block, k),
     }
