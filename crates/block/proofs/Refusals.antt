@@ -3,10 +3,11 @@
 use Prim.Native.Nat.{ℕ, suc}
 use mathlib.Core.Path.{◌≡◌, refl, sym, ap, ◌∙◌}
 use mathlib.Core.Bool.{Bool, true, false, cond}
+use mathlib.Core.List.{List}
 use native.Mathlib.Omega.{arith}
 use borrow.Author.Tests.{eq-eqb, ne_eqb, eqb-true, eqb-false}
 use lib.Dec.{eqb}
-use Rattle.block.specs.Refusals.{first, refusal_number}
+use Rattle.block.specs.Refusals.{first, leave_unless, refusal_number}
 use Rattle.block.specs.declared.refusal.Refusal.{Refusal}
 use Rattle.block.specs.declared.refusal.Refusal.TheVariants.{Short, Unsound, Channel, Range, Mode, Full, Empty, NotAligned, NoRegister, WrongWay}
 
@@ -46,3 +47,7 @@ numbered WrongWay e = omega arith
 -- the refusal of the first test is passed on
 pub passed_on : (r : Refusal) (a b : ℕ) → refusal_number r ≡ a → refusal_number r ≡ first a b
 passed_on r a b e = is_one a b (refusal_number r) e (numbered r)
+
+-- a call that is refused leaves every word
+pub kept : (r : Refusal) (n : ℕ) (m' m : List ℕ) → refusal_number r ≡ n → m ≡ leave_unless n m' m
+kept r n m' m e = sym (ap (λ (t : Bool). cond t m' m) (ne_eqb n 0 (λ q. numbered r (e ∙ q))))

@@ -8,7 +8,7 @@ use Rattle.channel_groups.specs.Groups.{did_answer, did_leave, did_signal}
 use Rattle.channel.specs.Channel.{answer_shown, block_answer, block_after}
 use Rattle.channel_calls.specs.declared.calls.ChannelCall.{ChannelCall}
 use Rattle.channel_calls.specs.declared.calls.Given.{Given}
-use Rattle.channel_calls.specs.declared.calls.Answer.{Answer}
+use Rattle.channel_calls.specs.Answer.{Answer}
 
 -- `d` is the block that the call left, `m` the block that the rule left
 pub performed : (g : Given) (k : ChannelCall) (b d m : List ℕ) (before holds signal : ℕ) (did result : Answer)

@@ -5,7 +5,7 @@ use Rattle.channel_groups.specs.Groups.{did_answer, did_leave, did_signal, statu
 use Rattle.channel_calls.specs.declared.calls.ChannelCall.{ChannelCall}
 use Rattle.channel_calls.specs.declared.calls.ChannelCall.TheVariants.{Settings, Memories, Status, Tests, Reads, Receive, Transmit}
 use Rattle.channel_calls.specs.declared.calls.Given.{Given}
-use Rattle.channel_calls.specs.declared.calls.Answer.{Answer}
+use Rattle.channel_calls.specs.Answer.{Answer}
 
 -- "After every accepted call on a channel": the rule, on what the call left
 abbrev pub block_after : Given → ChannelCall → List ℕ → List ℕ

@@ -16,7 +16,7 @@ use Rattle.channel_calls.specs.Answers.{numbers_of}
 use Rattle.channel_calls.specs.Refusals.{above, below, receive_call_refusal, transmit_call_refusal}
 use Rattle.channel_calls.specs.declared.calls.ReceiveCall.TheVariants.{ReadFifo}
 use Rattle.channel_calls.specs.declared.calls.TransmitCall.TheVariants.{WriteFifo, WriteAsync, Trigger}
-use Rattle.channel_calls.specs.declared.calls.Answer.TheVariants.{Fates}
+use Rattle.channel_calls.specs.Answer.{Fates}
 
 -- below 1 is 0
 below_one : (x : ℕ) → ltb x 1 ≡ eqb x 0

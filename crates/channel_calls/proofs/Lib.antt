@@ -1,3 +1,4 @@
 pub mod Accepted
 pub mod Exact
 pub mod Late
+pub mod Refused

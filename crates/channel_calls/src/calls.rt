@@ -1,4 +1,4 @@
-// The calls on a channel and their answers, as values.
+// The calls on a channel and their replies, as values.
 use arrival::Arrival;
 use schedule::Output;
 
@@ -101,11 +101,10 @@ pub enum ChannelCall {
     Transmit(TransmitCall),
 }
 
+// What an accepted call answers.
 #[derive(Clone, Copy)]
-pub enum Answer {
+pub enum Reply {
     Done,
-    // The number of the refusal.
-    Refused(u32),
     Value(u32),
     // The async mark, and the async word where one waits.
     Waiting(u32, u32),
@@ -122,7 +121,7 @@ pub enum Answer {
 // What a call answers before the rule, and the conditions that it signals.
 #[derive(Drop)]
 pub struct Did {
-    pub answer: Answer,
+    pub reply: Reply,
     pub signal: u32,
 }
 

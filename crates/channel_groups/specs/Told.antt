@@ -22,8 +22,7 @@ use Rattle.channel_calls.specs.declared.calls.ReceiveCall.TheVariants.{Arrive, R
 use Rattle.channel_calls.specs.declared.calls.TransmitCall.TheVariants.{WriteFifo, WriteAsync, Trigger, Pause, Stop, Step}
 use Rattle.channel_calls.specs.declared.calls.ChannelCall.{ChannelCall}
 use Rattle.channel_calls.specs.declared.calls.ChannelCall.TheVariants.{Settings, Memories, Status, Tests, Reads, Receive, Transmit}
-use Rattle.channel_calls.specs.declared.calls.Answer.{Answer}
-use Rattle.channel_calls.specs.declared.calls.Answer.TheVariants.{Done, Refused, Value, Fates, Arrived, Stepped}
+use Rattle.channel_calls.specs.Answer.{Answer, Done, Refused, Value, Fates, Arrived, Stepped}
 use Rattle.channel_groups.specs.Groups.{entry_answer}
 
 -- the oldest entry held

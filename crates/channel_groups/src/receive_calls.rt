@@ -2,13 +2,14 @@
 ghost use Rattle.std.specs.Prelude.{◌≡◌};
 ghost use Rattle.block.specs.Ranges.{Usable};
 ghost use Rattle.channel_calls.specs.Refusals.{receive_call_refusal};
+ghost use Rattle.channel_calls.specs.Answer.{accepted};
 ghost use Rattle.channel_groups.specs.Groups.{receive_answer, receive_after, receive_signal};
 
-use channel_calls::calls::{Answer, Did, ReceiveCall};
+use channel_calls::calls::{Did, ReceiveCall, Reply};
 
 pub fn on_receive(block: &mut [u32], stamp: u32, call: ReceiveCall) -> Did
     requires { (Usable block.old) × (receive_call_refusal call block.old ≡ 0) }
-    ensures answer { result.answer ≡ receive_answer call block.old }
+    ensures answer { accepted result.reply ≡ receive_answer call block.old }
     ensures signal { result.signal ≡ receive_signal call block.old }
     ensures after { block.new ≡ receive_after stamp call block.old }
 {
@@ -17,21 +18,21 @@ pub fn on_receive(block: &mut [u32], stamp: u32, call: ReceiveCall) -> Did
             let arrived = receive::arrive(block, stamp, word);
             let arrival = arrived.arrival;
             Did {
-                answer: Answer::Arrived(arrival),
+                reply: Reply::Arrived(arrival),
                 signal: arrived.signal,
             }
         }
         ReceiveCall::ReadFifo => {
             let entry = receive_reads::read_fifo(block);
             Did {
-                answer: Answer::Entry(entry.status, entry.word, entry.stamp),
+                reply: Reply::Entry(entry.status, entry.word, entry.stamp),
                 signal: 0,
             }
         }
         ReceiveCall::ReadMailbox(index) => {
             let entry = receive_reads::read_mailbox(block, index);
             Did {
-                answer: Answer::Entry(entry.status, entry.word, entry.stamp),
+                reply: Reply::Entry(entry.status, entry.word, entry.stamp),
                 signal: 0,
             }
         }

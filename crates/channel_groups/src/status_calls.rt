@@ -1,48 +1,49 @@
 // Accepted calls on the status masks. A status or pending read is answered after the rule.
 ghost use Rattle.std.specs.Prelude.{◌≡◌};
 ghost use Rattle.block.specs.Layout.{Whole};
+ghost use Rattle.channel_calls.specs.Answer.{accepted};
 ghost use Rattle.channel_groups.specs.Groups.{status_answer, status_after};
 ghost use Rattle.channel_groups.specs.Groups.{status_shown};
 
-use channel_calls::calls::{Answer, StatusCall};
+use channel_calls::calls::{Reply, StatusCall};
 
-pub fn on_status(block: &mut [u32], call: StatusCall) -> Answer
+pub fn on_status(block: &mut [u32], call: StatusCall) -> Reply
     requires { Whole block.old }
-    ensures answer { result ≡ status_answer call block.old }
+    ensures answer { accepted result ≡ status_answer call block.old }
     ensures after { block.new ≡ status_after call block.old }
 {
     match call {
-        StatusCall::ReadStatus => Answer::Done,
+        StatusCall::ReadStatus => Reply::Done,
         StatusCall::ClearLatch(mask) => {
             status::rule::clear_latch(block, mask);
-            Answer::Done
+            Reply::Done
         }
         StatusCall::WriteEnable(mask) => {
             block[block::layout::ENABLE] = mask;
-            Answer::Done
+            Reply::Done
         }
-        StatusCall::ReadEnable => Answer::Value(block[block::layout::ENABLE]),
+        StatusCall::ReadEnable => Reply::Value(block[block::layout::ENABLE]),
         StatusCall::WriteLevelMask(mask) => {
             block[block::layout::LEVEL_MASK] = mask;
-            Answer::Done
+            Reply::Done
         }
-        StatusCall::ReadLevelMask => Answer::Value(block[block::layout::LEVEL_MASK]),
-        StatusCall::ReadPending => Answer::Done,
+        StatusCall::ReadLevelMask => Reply::Value(block[block::layout::LEVEL_MASK]),
+        StatusCall::ReadPending => Reply::Done,
     }
 }
 
 // What a call shows of the block that the rule left.
-pub fn show(block: &[u32], call: StatusCall, answer: Answer) -> Answer
+pub fn show(block: &[u32], call: StatusCall, reply: Reply) -> Reply
     requires { Whole block.now }
-    ensures { result ≡ status_shown call block.now answer }
+    ensures { accepted result ≡ status_shown call block.now (accepted reply) }
 {
     match call {
-        StatusCall::ReadStatus => Answer::Value(block[block::layout::LATCH]),
-        StatusCall::ReadPending => Answer::Value(status::rule::pending(block)),
-        StatusCall::ClearLatch(_) => answer,
-        StatusCall::WriteEnable(_) => answer,
-        StatusCall::ReadEnable => answer,
-        StatusCall::WriteLevelMask(_) => answer,
-        StatusCall::ReadLevelMask => answer,
+        StatusCall::ReadStatus => Reply::Value(block[block::layout::LATCH]),
+        StatusCall::ReadPending => Reply::Value(status::rule::pending(block)),
+        StatusCall::ClearLatch(_) => reply,
+        StatusCall::WriteEnable(_) => reply,
+        StatusCall::ReadEnable => reply,
+        StatusCall::WriteLevelMask(_) => reply,
+        StatusCall::ReadLevelMask => reply,
     }
 }

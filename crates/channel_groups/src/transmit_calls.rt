@@ -3,24 +3,24 @@ ghost use Rattle.std.specs.Prelude.{◌≡◌};
 ghost use Rattle.block.specs.Ranges.{Usable};
 ghost use Rattle.channel_calls.specs.Refusals.{transmit_call_refusal};
 ghost use Rattle.channel_groups.specs.Groups.{transmit_answer, transmit_after, transmit_signal};
-ghost use Rattle.channel_calls.specs.declared.calls.Answer.TheVariants.{Done};
+ghost use Rattle.channel_calls.specs.Answer.{Done, accepted};
 
-use channel_calls::calls::{Answer, Did, TransmitCall};
+use channel_calls::calls::{Did, Reply, TransmitCall};
 
 // A call that answers nothing and signals nothing.
 fn done() -> Did
-    ensures answer { result.answer ≡ Done }
+    ensures answer { accepted result.reply ≡ Done }
     ensures signal { result.signal ≡ 0 }
 {
     Did {
-        answer: Answer::Done,
+        reply: Reply::Done,
         signal: 0,
     }
 }
 
 pub fn on_transmit(block: &mut [u32], call: TransmitCall) -> Did
     requires { (Usable block.old) × (transmit_call_refusal call block.old ≡ 0) }
-    ensures answer { result.answer ≡ transmit_answer call block.old }
+    ensures answer { accepted result.reply ≡ transmit_answer call block.old }
     ensures signal { result.signal ≡ transmit_signal call block.old }
     ensures after { block.new ≡ transmit_after call block.old }
 {
@@ -49,7 +49,7 @@ pub fn on_transmit(block: &mut [u32], call: TransmitCall) -> Did
             let stepped = transmit::step::step(block);
             let output = stepped.output;
             Did {
-                answer: Answer::Stepped(output),
+                reply: Reply::Stepped(output),
                 signal: stepped.signal,
             }
         }

@@ -51,7 +51,7 @@ use Rattle.channel_calls.specs.declared.calls.TransmitCall.TheVariants.{WriteFif
 use Rattle.channel_calls.specs.declared.calls.ChannelCall.{ChannelCall}
 use Rattle.channel_calls.specs.declared.calls.ChannelCall.TheVariants.{Settings, Memories, Status, Tests, Reads, Receive, Transmit}
 use Rattle.channel_calls.specs.declared.calls.Given.{Given}
-use Rattle.channel_calls.specs.declared.calls.Answer.{Answer}
+use Rattle.channel_calls.specs.Answer.{Answer}
 use Rattle.settings.specs.Kept.{Kept, kept_of, kept_by, effect_of}
 use Rattle.channel_laws.specs.Effects.{read_change, output_change, effect}
 use Rattle.channel_laws.proofs.Holds.{Holds, here, parts, kept_setting, store_kept, stored, same-settings}

@@ -48,7 +48,7 @@ use Rattle.channel_calls.specs.declared.calls.TransmitCall.TheVariants.{WriteFif
 use Rattle.channel_calls.specs.declared.calls.ChannelCall.{ChannelCall}
 use Rattle.channel_calls.specs.declared.calls.ChannelCall.TheVariants.{Settings, Memories, Status, Tests, Reads, Receive, Transmit}
 use Rattle.channel_calls.specs.declared.calls.Given.{Given}
-use Rattle.channel_calls.specs.declared.calls.Answer.{Answer}
+use Rattle.channel_calls.specs.Answer.{Answer}
 use Rattle.channel_groups.specs.Groups.{did_answer, did_leave}
 use Rattle.channel.specs.Channel.{answer_shown, block_answer, block_after}
 use Rattle.channel_laws.specs.Effects.{effect, setting_change}

@@ -17,8 +17,7 @@ use Rattle.channel_calls.specs.declared.calls.ReceiveCall.TheVariants.{Arrive, R
 use Rattle.channel_calls.specs.declared.calls.TransmitCall.TheVariants.{WriteFifo, WriteAsync, Trigger, Pause, Stop, Step}
 use Rattle.channel_calls.specs.declared.calls.ChannelCall.{ChannelCall}
 use Rattle.channel_calls.specs.declared.calls.ChannelCall.TheVariants.{Settings, Memories, Status, Tests, Reads, Receive, Transmit}
-use Rattle.channel_calls.specs.declared.calls.Answer.{Answer}
-use Rattle.channel_calls.specs.declared.calls.Answer.TheVariants.{Done, Refused, Value, Waiting, Fates, Arrived, Entry, Stepped}
+use Rattle.channel_calls.specs.Answer.{Answer, Done, Refused, Value, Waiting, Fates, Arrived, Entry, Stepped}
 
 -- by what an answer says: an arrival's outcome, an entry, a step's output, or something else
 abbrev pub by_answer : {A : Type 0} → A → (Arrival → A) → (List ℕ → A) → (Output → A) → Answer → A

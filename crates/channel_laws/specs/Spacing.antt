@@ -7,7 +7,7 @@ use Rattle.channel_calls.specs.declared.calls.SettingCall.TheVariants.{WriteSett
 use Rattle.channel_calls.specs.declared.calls.TestCall.TheVariants.{Sample, ResetTest, InitiateTest}
 use Rattle.channel_calls.specs.declared.calls.ChannelCall.{ChannelCall}
 use Rattle.channel_calls.specs.declared.calls.ChannelCall.TheVariants.{Settings, Memories, Status, Tests, Reads, Receive, Transmit}
-use Rattle.channel_calls.specs.declared.calls.Answer.{Answer}
+use Rattle.channel_calls.specs.Answer.{Answer}
 use Rattle.channel_laws.specs.Effects.{by_answer}
 
 -- "transmitter off and a change of transmit mode forget it": setting s written with v, by the settings l before

@@ -9,8 +9,7 @@ use lib.ListN.{take, drop, take-append-drop}
 use Rattle.settings.specs.Kept.{Effect, kept_of, kept_by}
 use Rattle.channel.specs.Channel.{block_answer}
 use Rattle.channel_calls.specs.Answers.{is_refused}
-use Rattle.channel_calls.specs.declared.calls.Answer.{Answer}
-use Rattle.channel_calls.specs.declared.calls.Answer.TheVariants.{Done, Refused}
+use Rattle.channel_calls.specs.Answer.{Answer, Done, Refused}
 use Rattle.channel_calls.specs.declared.calls.ChannelCall.{ChannelCall}
 use Rattle.channel_laws.specs.Effects.{nothing, effect}
 use Rattle.frame.specs.Layout.{most, block}

@@ -10,8 +10,7 @@ use lib.ListN.{length, take, drop, take-append-drop}
 use Rattle.block.specs.Layout.{word}
 use Rattle.channel.specs.Channel.{block_answer, block_after}
 use Rattle.channel_calls.specs.Answers.{is_refused}
-use Rattle.channel_calls.specs.declared.calls.Answer.{Answer}
-use Rattle.channel_calls.specs.declared.calls.Answer.TheVariants.{Done, Refused}
+use Rattle.channel_calls.specs.Answer.{Answer, Done, Refused}
 use Rattle.channel_calls.specs.declared.calls.ChannelCall.{ChannelCall}
 use Rattle.channel_calls.specs.declared.calls.Given.{Given}
 use Rattle.frame.specs.Layout.{count, most, need, block}

@@ -18,8 +18,7 @@ use Rattle.channel.proofs.Answered.{block-told}
 use Rattle.channel_calls.specs.Answers.{answer_unless, is_refused}
 use Rattle.channel_calls.specs.Refusals.{channel_refusal}
 use Rattle.channel_calls.proofs.Late.{late}
-use Rattle.channel_calls.specs.declared.calls.Answer.{Answer}
-use Rattle.channel_calls.specs.declared.calls.Answer.TheVariants.{Done, Refused, Value}
+use Rattle.channel_calls.specs.Answer.{Answer, Done, Refused, Value}
 use Rattle.channel_calls.specs.declared.calls.ChannelCall.{ChannelCall}
 use Rattle.frame.specs.Layout.{count, most, need, block}
 use Rattle.power.specs.Power.{power_refusal}

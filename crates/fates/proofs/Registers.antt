@@ -12,8 +12,7 @@ use Rattle.channel_calls.specs.declared.calls.TransmitCall.TheVariants.{WriteFif
 use Rattle.channel_calls.specs.declared.calls.ChannelCall.{ChannelCall}
 use Rattle.channel_calls.specs.declared.calls.ChannelCall.TheVariants.{Settings, Memories, Status, Tests, Reads, Receive, Transmit}
 use Rattle.channel_calls.specs.declared.calls.Given.{Given}
-use Rattle.channel_calls.specs.declared.calls.Answer.{Answer}
-use Rattle.channel_calls.specs.declared.calls.Answer.TheVariants.{Done}
+use Rattle.channel_calls.specs.Answer.{Answer, Done}
 use Rattle.channel_laws.specs.Effects.{nothing, effect}
 use Rattle.register_map.specs.Map.{bytes, register_at}
 use Rattle.register_map.specs.Turned.{read_of, read_turned, write_of, write_turned}

@@ -14,8 +14,7 @@ use Rattle.fifos.specs.Counts.{counted}
 use Rattle.settings.specs.Kept.{Kept, kept_of, kept_by}
 use Rattle.channel.specs.Channel.{block_answer, block_after}
 use Rattle.channel_calls.specs.Answers.{is_refused}
-use Rattle.channel_calls.specs.declared.calls.Answer.{Answer}
-use Rattle.channel_calls.specs.declared.calls.Answer.TheVariants.{Done, Refused}
+use Rattle.channel_calls.specs.Answer.{Answer, Done, Refused}
 use Rattle.channel_calls.specs.declared.calls.ChannelCall.{ChannelCall}
 use Rattle.channel_laws.specs.Effects.{nothing, effect, reset_effect}
 use Rattle.channel_laws.proofs.Calls.{left}

@@ -16,7 +16,7 @@ use Rattle.channel_calls.specs.Answers.{is_refused}
 use Rattle.channel_calls.specs.declared.calls.ReadCall.TheVariants.{ReadCounts, ReadReceiveLevel, ReadTransmitLevel}
 use Rattle.channel_calls.specs.declared.calls.ChannelCall.{ChannelCall}
 use Rattle.channel_calls.specs.declared.calls.ChannelCall.TheVariants.{Reads}
-use Rattle.channel_calls.specs.declared.calls.Answer.TheVariants.{Done, Refused, Value, Fates}
+use Rattle.channel_calls.specs.Answer.{Done, Refused, Value, Fates}
 use Rattle.frame.specs.Layout.{need, block}
 use Rattle.power.specs.Power.{power_refusal, powered}
 use Rattle.module.specs.declared.calls.Call.TheVariants.{PowerUp, Reset, Wide, On}

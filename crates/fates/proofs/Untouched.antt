@@ -11,8 +11,7 @@ use lib.ListN.{length, drop}
 use Rattle.block.specs.Layout.{word}
 use Rattle.channel.specs.Channel.{block_after}
 use Rattle.channel_calls.specs.Answers.{answer_unless, is_refused}
-use Rattle.channel_calls.specs.declared.calls.Answer.{Answer}
-use Rattle.channel_calls.specs.declared.calls.Answer.TheVariants.{Done, Refused, Value, Waiting, Fates, Arrived, Entry, Stepped}
+use Rattle.channel_calls.specs.Answer.{Answer, Done, Refused, Value, Waiting, Fates, Arrived, Entry, Stepped}
 use Rattle.channel_calls.specs.declared.calls.ChannelCall.{ChannelCall}
 use Rattle.frame.specs.Layout.{count, most, need, block}
 use Rattle.frame.specs.Refusals.{part_refusal, wide_refusal}

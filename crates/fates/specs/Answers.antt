@@ -4,8 +4,7 @@ use Rattle.block.specs.Layout.{word, transmitter}
 use Rattle.frame.specs.Layout.{most, need}
 use Rattle.channel_groups.specs.Told.{Told}
 use Rattle.channel_calls.specs.Answers.{answer_unless, is_refused}
-use Rattle.channel_calls.specs.declared.calls.Answer.{Answer}
-use Rattle.channel_calls.specs.declared.calls.Answer.TheVariants.{Done, Refused, Value}
+use Rattle.channel_calls.specs.Answer.{Answer, Done, Refused, Value}
 use Rattle.channel_calls.specs.declared.calls.ChannelCall.{ChannelCall}
 use Rattle.wide.specs.Part.{WideTold}
 use Rattle.module.specs.declared.calls.Call.{Call}

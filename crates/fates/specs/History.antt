@@ -3,8 +3,7 @@ use Rattle.std.specs.Prelude.{ℕ, ◌+◌, List, [], ◌∷◌, map, cond, eqb}
 use Rattle.fifos.specs.Counts.{counted}
 use Rattle.settings.specs.Kept.{Kept, kept_first, Effect, kept_by}
 use Rattle.channel_calls.specs.Answers.{is_refused}
-use Rattle.channel_calls.specs.declared.calls.Answer.{Answer}
-use Rattle.channel_calls.specs.declared.calls.Answer.TheVariants.{Done}
+use Rattle.channel_calls.specs.Answer.{Answer, Done}
 use Rattle.channel_laws.specs.Effects.{nothing, effect, reset_effect, power_effect}
 use Rattle.wide.specs.Part.{Part}
 use Rattle.wide.specs.declared.calls.WideCall.{WideCall}

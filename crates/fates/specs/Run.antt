@@ -1,6 +1,6 @@
 -- A run of accesses on a module's memory, each with the number of words that it is lent (demand 3). A list of accesses has the latest first.
 use Rattle.std.specs.Prelude.{ℕ, List, [], ◌∷◌, ◌++◌, take, drop}
-use Rattle.channel_calls.specs.declared.calls.Answer.{Answer}
+use Rattle.channel_calls.specs.Answer.{Answer}
 use Rattle.registers.specs.Access.{access_answer, access_after}
 use Rattle.registers.specs.declared.accesses.Access.{Access}
 use Rattle.fates.specs.History.{Telling, told}

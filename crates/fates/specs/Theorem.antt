@@ -6,8 +6,7 @@ use Rattle.settings.specs.Kept.{kept_of}
 use Rattle.channel_calls.specs.Answers.{is_refused}
 use Rattle.channel_calls.specs.declared.calls.ReadCall.TheVariants.{ReadCounts, ReadReceiveLevel, ReadTransmitLevel}
 use Rattle.channel_calls.specs.declared.calls.ChannelCall.TheVariants.{Reads}
-use Rattle.channel_calls.specs.declared.calls.Answer.{Answer}
-use Rattle.channel_calls.specs.declared.calls.Answer.TheVariants.{Value, Fates}
+use Rattle.channel_calls.specs.Answer.{Answer, Value, Fates}
 use Rattle.frame.specs.Layout.{need, block}
 use Rattle.module.specs.declared.calls.Call.{Call}
 use Rattle.module.specs.declared.calls.Call.TheVariants.{PowerUp, Reset, Wide, On}

@@ -16,8 +16,7 @@ use Rattle.receive.specs.Fates.{arrival_change}
 use Rattle.receive.specs.Entries.{entry_of}
 use Rattle.channel_calls.specs.declared.calls.ReceiveCall.TheVariants.{Arrive}
 use Rattle.channel_calls.specs.declared.calls.ChannelCall.TheVariants.{Receive}
-use Rattle.channel_calls.specs.declared.calls.Answer.{Answer}
-use Rattle.channel_calls.specs.declared.calls.Answer.TheVariants.{Done, Refused, Value, Waiting, Fates, Arrived, Entry, Stepped}
+use Rattle.channel_calls.specs.Answer.{Answer, Done, Refused, Value, Waiting, Fates, Arrived, Entry, Stepped}
 use Rattle.module.specs.declared.calls.Call.TheVariants.{PowerUp, On}
 use Rattle.registers.specs.declared.accesses.Access.{Access}
 use Rattle.registers.specs.declared.accesses.Access.TheVariants.{Direct}

@@ -9,7 +9,7 @@ use borrow.Author.Tests.{ltb-true, eqb-true}
 use lib.Dec.{eqb, ltb}
 use lib.ListN.{length}
 use Rattle.fifos.specs.Fifos.{Change, Stays, Adds, Overwrites, Takes, Clears, Begins}
-use Rattle.channel_calls.specs.declared.calls.Answer.{Answer}
+use Rattle.channel_calls.specs.Answer.{Answer}
 use Rattle.fates.specs.History.{Telling}
 use Rattle.fates.specs.Ledger.{Receiving, Accepted, Departed, Ledger, ledger_after, accepted_after, change_behind, ledger, numbered}
 use Rattle.fates.specs.Theorem.{Every}

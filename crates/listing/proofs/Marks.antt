@@ -22,8 +22,7 @@ use Rattle.channel_calls.specs.declared.calls.ReadCall.TheVariants.{ReadCounts}
 use Rattle.channel_calls.specs.declared.calls.ReceiveCall.TheVariants.{Arrive}
 use Rattle.channel_calls.specs.declared.calls.ChannelCall.{ChannelCall}
 use Rattle.channel_calls.specs.declared.calls.ChannelCall.TheVariants.{Settings, Memories, Status, Tests, Reads, Receive, Transmit}
-use Rattle.channel_calls.specs.declared.calls.Answer.{Answer}
-use Rattle.channel_calls.specs.declared.calls.Answer.TheVariants.{Done, Arrived}
+use Rattle.channel_calls.specs.Answer.{Answer, Done, Arrived}
 use Rattle.channel_laws.specs.Effects.{by_answer, nothing, effect}
 use Rattle.channel_laws.specs.Listing.{ListedBy, in_fifo_mode, mark_by, reads_mailbox}
 use Rattle.channel_laws.proofs.Holds.{kept_setting}

@@ -23,8 +23,7 @@ use Rattle.channel_calls.specs.declared.calls.TransmitCall.TheVariants.{WriteFif
 use Rattle.channel_calls.specs.declared.calls.ReceiveCall.TheVariants.{Arrive, ReadFifo, ReadMailbox}
 use Rattle.channel_calls.specs.declared.calls.ChannelCall.{ChannelCall}
 use Rattle.channel_calls.specs.declared.calls.ChannelCall.TheVariants.{Settings, Memories, Status, Tests, Reads, Receive, Transmit}
-use Rattle.channel_calls.specs.declared.calls.Answer.{Answer}
-use Rattle.channel_calls.specs.declared.calls.Answer.TheVariants.{Done, Refused, Value, Waiting, Fates, Arrived, Entry, Stepped}
+use Rattle.channel_calls.specs.Answer.{Answer, Done, Refused, Value, Waiting, Fates, Arrived, Entry, Stepped}
 use Rattle.channel_laws.specs.Effects.{setting_change, arrive_change, read_change, nothing, effect}
 use Rattle.channel_laws.specs.Listing.{ListedBy, names, names_any, times_listed, in_fifo_mode, mark_by, reads_mailbox}
 use Rattle.channel_laws.proofs.Listing.{names_entry}

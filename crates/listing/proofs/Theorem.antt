@@ -13,7 +13,7 @@ use Rattle.fifos.specs.Mailboxes.{mailbox_at, new_mark, is_new}
 use Rattle.channel_calls.specs.Refusals.{above}
 use Rattle.channel_calls.specs.declared.calls.ReceiveCall.TheVariants.{ReadMailbox}
 use Rattle.channel_calls.specs.declared.calls.ChannelCall.TheVariants.{Receive}
-use Rattle.channel_calls.specs.declared.calls.Answer.{Answer}
+use Rattle.channel_calls.specs.Answer.{Answer}
 use Rattle.channel_laws.specs.Listing.{ListedBy}
 use Rattle.frame.specs.Layout.{count, need, block}
 use Rattle.module.specs.OnChannel.{on_refusal}

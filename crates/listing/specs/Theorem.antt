@@ -8,8 +8,7 @@ use Rattle.arrival.specs.declared.Arrival.{Arrival}
 use Rattle.arrival.specs.declared.Arrival.TheVariants.{Ignored, Filtered, Appended, Dropped, Overwriting, AlreadyListed}
 use Rattle.channel_calls.specs.declared.calls.ReceiveCall.TheVariants.{Arrive, ReadMailbox}
 use Rattle.channel_calls.specs.declared.calls.ChannelCall.TheVariants.{Receive}
-use Rattle.channel_calls.specs.declared.calls.Answer.{Answer}
-use Rattle.channel_calls.specs.declared.calls.Answer.TheVariants.{Arrived, Entry}
+use Rattle.channel_calls.specs.Answer.{Answer, Arrived, Entry}
 use Rattle.channel_laws.specs.Listing.{ListedBy, names, names_any, times_listed, in_fifo_mode}
 use Rattle.frame.specs.Layout.{need}
 use Rattle.module.specs.declared.calls.Call.TheVariants.{On}

@@ -13,8 +13,7 @@ use Rattle.status.specs.Status.{faulty}
 use Rattle.block.specs.Refusals.{leave_unless}
 use Rattle.channel_calls.specs.Answers.{answer_unless}
 use Rattle.channel.specs.Channel.{block_answer, block_after}
-use Rattle.channel_calls.specs.declared.calls.Answer.{Answer}
-use Rattle.channel_calls.specs.declared.calls.Answer.TheVariants.{Refused}
+use Rattle.channel_calls.specs.Answer.{Answer, Refused}
 use Rattle.channel_calls.specs.declared.calls.ChannelCall.{ChannelCall}
 use Rattle.channel_calls.specs.declared.calls.Given.{Given}
 use Rattle.frame.specs.Layout.{stamp, threshold, most, base, block, with_block}

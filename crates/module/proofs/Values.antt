@@ -20,8 +20,7 @@ use Rattle.channel_calls.specs.declared.calls.TransmitCall.TheVariants.{WriteFif
 use Rattle.channel_calls.specs.declared.calls.ChannelCall.{ChannelCall}
 use Rattle.channel_calls.specs.declared.calls.ChannelCall.TheVariants.{Settings, Memories, Status, Tests, Reads, Receive, Transmit}
 use Rattle.channel_calls.specs.declared.calls.Given.{Given}
-use Rattle.channel_calls.specs.declared.calls.Answer.{Answer}
-use Rattle.channel_calls.specs.declared.calls.Answer.TheVariants.{Done, Refused}
+use Rattle.channel_calls.specs.Answer.{Answer, Done, Refused}
 use Rattle.channel.specs.Channel.{block_answer}
 use Rattle.frame.specs.Layout.{block}
 use Rattle.frame.specs.Refusals.{wide_refusal}

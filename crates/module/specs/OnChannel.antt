@@ -6,7 +6,7 @@ use Rattle.status.specs.Status.{faulty}
 use Rattle.channel_calls.specs.Refusals.{channel_refusal}
 use Rattle.channel_calls.specs.Answers.{answer_unless}
 use Rattle.channel.specs.Channel.{block_answer, block_after}
-use Rattle.channel_calls.specs.declared.calls.Answer.{Answer}
+use Rattle.channel_calls.specs.Answer.{Answer}
 use Rattle.channel_calls.specs.declared.calls.ChannelCall.{ChannelCall}
 use Rattle.channel_calls.specs.declared.calls.ChannelCall.TheVariants.{Settings, Memories, Status, Tests, Reads, Receive, Transmit}
 use Rattle.channel_calls.specs.declared.calls.TestCall.{TestCall}

@@ -2,8 +2,7 @@
 use Rattle.std.specs.Prelude.{ℕ, List, length}
 use Rattle.block.specs.Refusals.{leave_unless}
 use Rattle.channel_calls.specs.Answers.{channel_values, answer_unless, numbers_of}
-use Rattle.channel_calls.specs.declared.calls.Answer.{Answer}
-use Rattle.channel_calls.specs.declared.calls.Answer.TheVariants.{Done}
+use Rattle.channel_calls.specs.Answer.{Answer, Done}
 use Rattle.frame.specs.Refusals.{wide_refusal}
 use Rattle.power.specs.Power.{power_refusal, power_after}
 use Rattle.wide.specs.Refusals.{call_refusal}

@@ -2,13 +2,15 @@
 ghost use Rattle.std.specs.Prelude.{◌≡◌};
 ghost use Rattle.block.specs.Layout.{word};
 ghost use Rattle.block.specs.Ranges.{Usable};
+ghost use Rattle.channel_calls.specs.Answer.{accepted, answered};
 ghost use Rattle.channel_calls.specs.Refusals.{channel_refusal};
 ghost use Rattle.channel.specs.Channel.{block_answer};
 ghost use Rattle.frame.specs.Layout.{block};
 ghost use Rattle.module.specs.OnChannel.{Room, counter_at, test_counter, counter_after, given_of, accepted_after, on_answer, on_after};
 
 use block::layout::WORDS;
-use channel_calls::calls::{Answer, ChannelCall, Given, TestCall};
+use block::refusal::Refusal;
+use channel_calls::calls::{ChannelCall, Given, Reply, TestCall};
 use frame::layout::{COUNTERS, MODULE_WORDS, STAMP, THRESHOLD};
 
 // A channel's fault counter after a test call: the twelve counters pass as one array by value.
@@ -45,9 +47,9 @@ fn counter_after(mem: &[u32], channel: u32, call: ChannelCall) -> u32
 }
 
 // An accepted call on a channel.
-fn accept(mem: &mut [u32], channel: u32, call: ChannelCall) -> Answer
+fn accept(mem: &mut [u32], channel: u32, call: ChannelCall) -> Reply
     requires { (Room mem.old channel) × (Usable (block mem.old channel)) × (channel_refusal call (block mem.old channel) ≡ 0) }
-    ensures answer { result ≡ block_answer (given_of channel call mem.old) call (block mem.old channel) }
+    ensures answer { accepted result ≡ block_answer (given_of channel call mem.old) call (block mem.old channel) }
     ensures after { mem.new ≡ accepted_after channel call mem.old }
 {
     let at = COUNTERS + ((channel - 1) as usize);
@@ -72,19 +74,13 @@ fn accept(mem: &mut [u32], channel: u32, call: ChannelCall) -> Answer
 }
 
 // A call on a channel: refused, or done.
-pub fn on_channel(mem: &mut [u32], channel: u32, call: ChannelCall) -> Answer
-    ensures answer { result ≡ on_answer channel call mem.old }
+pub fn on_channel(mem: &mut [u32], channel: u32, call: ChannelCall) -> Result<Reply, Refusal>
+    ensures answer { answered result ≡ on_answer channel call mem.old }
     ensures after { mem.new ≡ on_after channel call mem.old }
 {
-    let address = frame::refusals::address_refusal(mem, channel);
-    if address != 0 {
-        return Answer::Refused(address);
-    }
+    frame::refusals::address_refusal(mem, channel)?;
     let from = MODULE_WORDS + ((channel - 1) as usize) * WORDS;
     let to = from + WORDS;
-    let refusal = channel_calls::refusals::refusal(&mem[from..to], call);
-    if refusal != 0 {
-        return Answer::Refused(refusal);
-    }
-    accept(mem, channel, call)
+    channel_calls::refusals::refusal(&mem[from..to], call)?;
+    Ok(accept(mem, channel, call))
 }

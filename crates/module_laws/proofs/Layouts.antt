@@ -9,8 +9,7 @@ use Rattle.block.specs.Layout.{word}
 use Rattle.block.specs.Refusals.{leave_unless}
 use Rattle.block.proofs.Refusals.{is_one}
 use Rattle.channel_calls.specs.Answers.{answer_unless}
-use Rattle.channel_calls.specs.declared.calls.Answer.{Answer}
-use Rattle.channel_calls.specs.declared.calls.Answer.TheVariants.{Refused}
+use Rattle.channel_calls.specs.Answer.{Answer, Refused}
 use Rattle.channel_calls.specs.declared.calls.ChannelCall.{ChannelCall}
 use Rattle.frame.specs.Layout.{layout, layout_number}
 use Rattle.frame.specs.Refusals.{part_refusal, channel_of, address_refusal, wide_refusal}

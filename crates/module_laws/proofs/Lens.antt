@@ -11,7 +11,7 @@ use lib.ListN.{length, set, length-set}
 use lib.Seq.{set_comm}
 use Rattle.block.specs.Layout.{word, block_words}
 use Rattle.block.specs.Refusals.{leave_unless}
-use Rattle.channel_calls.specs.declared.calls.Answer.TheVariants.{Refused}
+use Rattle.channel_calls.specs.Answer.{Refused}
 use Rattle.channel_calls.specs.declared.calls.ChannelCall.{ChannelCall}
 use Rattle.channel.specs.Channel.{block_answer}
 use Rattle.frame.specs.Layout.{count, stamp, threshold, most, base, with_block}

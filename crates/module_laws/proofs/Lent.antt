@@ -15,8 +15,7 @@ use Rattle.block.specs.Ranges.{Usable}
 use Rattle.block.proofs.Sound.{each_in}
 use Rattle.channel_calls.specs.Refusals.{channel_refusal}
 use Rattle.channel.specs.Channel.{block_answer, block_after}
-use Rattle.channel_calls.specs.declared.calls.Answer.{Answer}
-use Rattle.channel_calls.specs.declared.calls.Answer.TheVariants.{Done, Refused, Value}
+use Rattle.channel_calls.specs.Answer.{Answer, Done, Refused, Value}
 use Rattle.channel_calls.specs.declared.calls.ChannelCall.{ChannelCall}
 use Rattle.settings.specs.Kept.{kept_of, kept_first}
 use Rattle.channel_laws.proofs.Resets.{first_holds}

@@ -3,7 +3,7 @@ use Rattle.std.specs.Prelude.{ℕ, ◌≤◌, ◌≡◌, List}
 use Rattle.block.specs.Layout.{word}
 use Rattle.frame.specs.Layout.{layout, layout_number}
 use Rattle.frame.specs.Refusals.{part_refusal}
-use Rattle.channel_calls.specs.declared.calls.Answer.TheVariants.{Refused}
+use Rattle.channel_calls.specs.Answer.{Refused}
 use Rattle.module.specs.Perform.{answer, after}
 use Rattle.module.specs.declared.calls.Call.{Call}
 use Rattle.module.specs.declared.calls.Call.TheVariants.{PowerUp}

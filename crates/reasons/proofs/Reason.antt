@@ -12,8 +12,7 @@ use lib.Seq.{take-length, drop-length}
 use Rattle.little_endian.specs.LittleEndian.{word_at}
 use Rattle.channel_calls.specs.declared.calls.ReceiveCall.TheVariants.{Arrive}
 use Rattle.channel_calls.specs.declared.calls.ChannelCall.TheVariants.{Receive}
-use Rattle.channel_calls.specs.declared.calls.Answer.{Answer}
-use Rattle.channel_calls.specs.declared.calls.Answer.TheVariants.{Refused}
+use Rattle.channel_calls.specs.Answer.{Answer, Refused}
 use Rattle.channel.specs.Channel.{block_answer}
 use Rattle.frame.specs.Layout.{need, block}
 use Rattle.power.specs.Power.{power_refusal, power_after}

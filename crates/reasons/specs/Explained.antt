@@ -4,7 +4,7 @@ use Rattle.std.specs.Prelude.{ℕ, zero, suc, ◌*◌, ◌-◌, List, [], ◌∷
 use Rattle.block.specs.Refusals.{leave_unless}
 use Rattle.channel_calls.specs.declared.calls.ReceiveCall.TheVariants.{Arrive}
 use Rattle.channel_calls.specs.declared.calls.ChannelCall.TheVariants.{Receive}
-use Rattle.channel_calls.specs.declared.calls.Answer.{Answer}
+use Rattle.channel_calls.specs.Answer.{Answer}
 use Rattle.frame.specs.Layout.{need}
 use Rattle.module.specs.declared.calls.Call.TheVariants.{PowerUp, On}
 use Rattle.registers.specs.declared.accesses.Access.{Access}

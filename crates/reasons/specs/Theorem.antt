@@ -1,6 +1,6 @@
 -- "The rules .. must give that reason, and an arrival always gets one" (paper 02, (viii)).
 use Rattle.std.specs.Prelude.{ℕ, suc, ◌≡◌, List, length}
-use Rattle.channel_calls.specs.declared.calls.Answer.{Answer}
+use Rattle.channel_calls.specs.Answer.{Answer}
 use Rattle.fates.specs.History.{Telling}
 use Rattle.fates.specs.Theorem.{Started}
 use Rattle.following.specs.Follows.{Explains}

@@ -15,7 +15,7 @@ use Rattle.channel_calls.specs.declared.calls.ReceiveCall.{ReceiveCall}
 use Rattle.channel_calls.specs.declared.calls.ReceiveCall.TheVariants.{Arrive, ReadFifo, ReadMailbox}
 use Rattle.channel_calls.specs.declared.calls.ChannelCall.{ChannelCall}
 use Rattle.channel_calls.specs.declared.calls.ChannelCall.TheVariants.{Settings, Memories, Status, Tests, Reads, Receive, Transmit}
-use Rattle.channel_calls.specs.declared.calls.Answer.{Answer}
+use Rattle.channel_calls.specs.Answer.{Answer}
 use Rattle.channel_laws.specs.Effects.{by_answer}
 use Rattle.fifos.specs.Fifos.{Change, Stays, Adds, Overwrites, Takes, Clears, Begins}
 use Rattle.module.specs.declared.calls.Call.{Call}

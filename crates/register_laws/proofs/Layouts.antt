@@ -11,7 +11,7 @@ use Rattle.frame.specs.Layout.{layout, layout_number}
 use Rattle.frame.specs.Refusals.{part_refusal}
 use Rattle.frame.proofs.Refused.{other_layout}
 use Rattle.channel_calls.specs.Answers.{is_refused}
-use Rattle.channel_calls.specs.declared.calls.Answer.{Answer}
+use Rattle.channel_calls.specs.Answer.{Answer}
 use Rattle.channel_calls.specs.declared.calls.ChannelCall.{ChannelCall}
 use Rattle.module.specs.declared.calls.Call.{Call}
 use Rattle.module.specs.declared.calls.Call.TheVariants.{PowerUp, Reset, Wide, On}

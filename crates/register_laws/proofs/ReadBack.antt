@@ -23,7 +23,7 @@ use Rattle.channel_calls.specs.declared.calls.ReadCall.TheVariants.{ReadAsync}
 use Rattle.channel_calls.specs.declared.calls.TransmitCall.TheVariants.{WriteAsync}
 use Rattle.channel_calls.specs.declared.calls.ChannelCall.{ChannelCall}
 use Rattle.channel_calls.specs.declared.calls.ChannelCall.TheVariants.{Settings, Memories, Reads, Transmit}
-use Rattle.channel_calls.specs.declared.calls.Answer.TheVariants.{Refused, Value}
+use Rattle.channel_calls.specs.Answer.{Refused, Value}
 use Rattle.frame.specs.Layout.{count, block}
 use Rattle.frame.specs.Refusals.{channel_of}
 use Rattle.module.specs.OnChannel.{on_refusal, given_of, accepted_after, on_answer, on_after}

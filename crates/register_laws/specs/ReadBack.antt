@@ -1,6 +1,6 @@
 -- What is written to a register is read from it again.
 use Rattle.std.specs.Prelude.{ℕ, ◌≡◌, List}
-use Rattle.channel_calls.specs.declared.calls.Answer.TheVariants.{Value}
+use Rattle.channel_calls.specs.Answer.{Value}
 use Rattle.register_map.specs.Turned.{read_of, write_of}
 use Rattle.registers.specs.Access.{turned_answer, turned_after}
 use Rattle.register_map.specs.declared.map.Register.{Register}

@@ -1,7 +1,6 @@
 -- How a register shows what its call answers: "Bit positions: 004, other bits read 0" (paper 02 (vi); docs/REGISTERS.md).
 use Rattle.std.specs.Prelude.{ℕ, ◌+◌, ◌*◌, ◌/◌, ◌%◌}
-use Rattle.channel_calls.specs.declared.calls.Answer.{Answer}
-use Rattle.channel_calls.specs.declared.calls.Answer.TheVariants.{Done, Refused, Value, Waiting, Fates, Arrived, Entry, Stepped}
+use Rattle.channel_calls.specs.Answer.{Answer, Done, Refused, Value, Waiting, Fates, Arrived, Entry, Stepped}
 use Rattle.register_map.specs.declared.shown.Bits.{Bits}
 use Rattle.register_map.specs.declared.shown.Bits.TheVariants.{AllBits, CommandBits, StatusBits}
 

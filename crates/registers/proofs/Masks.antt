@@ -10,7 +10,7 @@ use native.Mathlib.Omega.{arith}
 use borrow.Author.Tests.{ne_eqb}
 use Rattle.bits.specs.Bits.{bit_at}
 use Rattle.channel_calls.specs.Answers.{is_refused}
-use Rattle.channel_calls.specs.declared.calls.Answer.{Answer}
+use Rattle.channel_calls.specs.Answer.{Answer}
 use Rattle.channel_calls.specs.declared.calls.ChannelCall.{ChannelCall}
 use Rattle.module.specs.OnChannel.{on_answer, on_after}
 use Rattle.registers.specs.Masked.{control_call, is_named, tried_on, refused_on, tried_to, refused_to}

@@ -7,8 +7,7 @@ use mathlib.Core.List.{List}
 use lib.Dec.{eqb}
 use lib.ListN.{length}
 use Rattle.channel_calls.specs.Answers.{numbers_of}
-use Rattle.channel_calls.specs.declared.calls.Answer.{Answer}
-use Rattle.channel_calls.specs.declared.calls.Answer.TheVariants.{Done, Refused, Value, Waiting, Fates, Arrived, Entry, Stepped}
+use Rattle.channel_calls.specs.Answer.{Answer, Done, Refused, Value, Waiting, Fates, Arrived, Entry, Stepped}
 use Rattle.frame.specs.Layout.{most}
 use Rattle.frame.specs.Refusals.{part_refusal}
 use Rattle.module.specs.OnChannel.{on_answer}

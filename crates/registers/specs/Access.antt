@@ -1,8 +1,7 @@
 -- Every access to a module's memory: what it answers and what it leaves (paper 02 (vi)).
 use Rattle.std.specs.Prelude.{ℕ, List}
 use Rattle.channel_calls.specs.Answers.{numbers_of}
-use Rattle.channel_calls.specs.declared.calls.Answer.{Answer}
-use Rattle.channel_calls.specs.declared.calls.Answer.TheVariants.{Refused}
+use Rattle.channel_calls.specs.Answer.{Answer, Refused}
 use Rattle.module.specs.OnChannel.{on_answer, on_after}
 use Rattle.module.specs.Perform.{answer, after, values}
 use Rattle.register_map.specs.Shown.{shown}

@@ -6,8 +6,7 @@ use Rattle.channel_calls.specs.Answers.{answer_unless, is_refused}
 use Rattle.channel_calls.specs.declared.calls.TransmitCall.TheVariants.{Trigger, Pause, Stop}
 use Rattle.channel_calls.specs.declared.calls.ChannelCall.{ChannelCall}
 use Rattle.channel_calls.specs.declared.calls.ChannelCall.TheVariants.{Transmit}
-use Rattle.channel_calls.specs.declared.calls.Answer.{Answer}
-use Rattle.channel_calls.specs.declared.calls.Answer.TheVariants.{Value}
+use Rattle.channel_calls.specs.Answer.{Answer, Value}
 use Rattle.frame.specs.Layout.{most}
 use Rattle.frame.specs.Refusals.{part_refusal}
 use Rattle.module.specs.OnChannel.{on_answer, on_after}

@@ -1,7 +1,7 @@
 -- What a channel's schedule puts on the line over a list of accesses and answers, the latest first (paper 02 (i)).
 use Rattle.std.specs.Prelude.{ℕ, List, [], ◌∷◌, ◌++◌, cond, eqb}
 use Rattle.schedule.specs.Spacing.{Item, Forgotten}
-use Rattle.channel_calls.specs.declared.calls.Answer.{Answer}
+use Rattle.channel_calls.specs.Answer.{Answer}
 use Rattle.channel_laws.specs.Spacing.{line_of}
 use Rattle.module.specs.declared.calls.Call.{Call}
 use Rattle.module.specs.declared.calls.Call.TheVariants.{PowerUp, Reset, Wide, On}

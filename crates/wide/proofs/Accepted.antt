@@ -3,7 +3,7 @@
 use Rattle.std.proofs.Common.{◌≡◌, ℕ, List}
 use Rattle.block.specs.Refusals.{leave_unless}
 use Rattle.channel_calls.specs.Answers.{answer_unless}
-use Rattle.channel_calls.specs.declared.calls.Answer.{Answer}
+use Rattle.channel_calls.specs.Answer.{Answer}
 use Rattle.frame.specs.Refusals.{wide_refusal}
 use Rattle.wide.specs.Effects.{wide_effect}
 use Rattle.wide.specs.Refusals.{effect_refusal, call_refusal}

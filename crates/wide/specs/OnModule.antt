@@ -2,8 +2,7 @@
 use Rattle.std.specs.Prelude.{ℕ, List, slice_set}
 use Rattle.fifos.specs.Counts.{counted}
 use Rattle.block.specs.Layout.{word}
-use Rattle.channel_calls.specs.declared.calls.Answer.{Answer}
-use Rattle.channel_calls.specs.declared.calls.Answer.TheVariants.{Done, Value}
+use Rattle.channel_calls.specs.Answer.{Answer, Done, Value}
 use Rattle.frame.specs.Layout.{stamp}
 use Rattle.wide.specs.Rule.{ruled_all}
 use Rattle.wide.specs.Effects.{wide_effect}

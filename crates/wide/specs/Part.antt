@@ -3,8 +3,7 @@ use Rattle.std.specs.Prelude.{◌≡◌, ℕ, List}
 use Rattle.block.specs.Layout.{word}
 use Rattle.frame.specs.Layout.{stamp, resolution, threshold}
 use Rattle.channel_calls.specs.Answers.{answer_unless}
-use Rattle.channel_calls.specs.declared.calls.Answer.{Answer}
-use Rattle.channel_calls.specs.declared.calls.Answer.TheVariants.{Done, Value}
+use Rattle.channel_calls.specs.Answer.{Answer, Done, Value}
 use Rattle.wide.specs.Refusals.{argument_refusal}
 use Rattle.wide.specs.declared.calls.WideCall.{WideCall}
 use Rattle.wide.specs.declared.calls.WideCall.TheVariants.{AdvanceStamp, ZeroStamp, ReadStamp, WriteResolution, ReadResolution, WriteThreshold, ReadThreshold}

@@ -2,6 +2,7 @@
 ghost use Rattle.std.specs.Prelude.{◌≡◌, length, slice_set};
 ghost use Rattle.block.specs.Layout.{word};
 ghost use Rattle.block.specs.Refusals.{leave_unless};
+ghost use Rattle.channel_calls.specs.Answer.{accepted, answered};
 ghost use Rattle.channel_calls.specs.Answers.{answer_unless};
 ghost use Rattle.frame.specs.Layout.{count, Framed};
 ghost use Rattle.wide.specs.Effects.{place_of, PartWord};
@@ -13,7 +14,8 @@ use crate::calls::{WideCall, WideEffect};
 use crate::effects::effect_of;
 use crate::refusals::effect_refusal;
 use crate::rule::rule_all;
-use channel_calls::calls::Answer;
+use block::refusal::Refusal;
+use channel_calls::calls::Reply;
 use frame::channels::wide_refusal;
 use frame::layout::{STAMP, THRESHOLD};
 
@@ -28,38 +30,32 @@ fn store(mem: &mut [u32], at: usize, value: u32)
 }
 
 // What an accepted call does.
-fn accept(mem: &mut [u32], effect: WideEffect) -> Answer
+fn accept(mem: &mut [u32], effect: WideEffect) -> Reply
     requires { (Framed (length mem.old) (word mem.old count)) × (PartWord (place_of effect)) }
-    ensures answer { result ≡ effect_answer effect mem.old }
+    ensures answer { accepted result ≡ effect_answer effect mem.old }
     ensures after { mem.new ≡ effect_after effect mem.old }
 {
     match effect {
-        WideEffect::Shows(at) => Answer::Value(mem[at]),
+        WideEffect::Shows(at) => Reply::Value(mem[at]),
         WideEffect::Stores(at, value) => {
             store(mem, at, value);
-            Answer::Done
+            Reply::Done
         }
         WideEffect::Advances(ticks) => {
             let stamp = mem[STAMP];
             store(mem, STAMP, std::num::wrapping_add_u32(stamp, ticks));
-            Answer::Done
+            Reply::Done
         }
     }
 }
 
 // A module-wide call: refused, or done.
-pub fn on_module(mem: &mut [u32], call: WideCall) -> Answer
-    ensures answer { result ≡ answer_unless (call_refusal call mem.old) (wide_answer call mem.old) }
+pub fn on_module(mem: &mut [u32], call: WideCall) -> Result<Reply, Refusal>
+    ensures answer { answered result ≡ answer_unless (call_refusal call mem.old) (wide_answer call mem.old) }
     ensures after { mem.new ≡ leave_unless (call_refusal call mem.old) (wide_after call mem.old) mem.old }
 {
-    let memory = wide_refusal(mem);
-    if memory != 0 {
-        return Answer::Refused(memory);
-    }
+    wide_refusal(mem)?;
     let effect = effect_of(call);
-    let refusal = effect_refusal(effect);
-    if refusal != 0 {
-        return Answer::Refused(refusal);
-    }
-    accept(mem, effect)
+    effect_refusal(effect)?;
+    Ok(accept(mem, effect))
 }

@@ -40,9 +40,7 @@ pub fn rule_all(mem: &mut [u32], old: u32)
     ensures { mem.new ≡ ruled_to old (word mem.old count) mem.old }
 {
     let count = mem[COUNT];
-    let mut ruled = 0;
-    while ruled < count {
+    for ruled in 0..count {
         rule_channel(mem, ruled + 1, old);
-        ruled += 1;
     }
 }

@@ -6,7 +6,7 @@ use Rattle.block.proofs.Refusals.{neither}
 use Rattle.schedule.specs.Codes.{last_message, last}
 use Rattle.block.specs.Layout.{last_index}
 use Rattle.channel_calls.proofs.Accepted.{not_above}
-use Rattle.channel_calls.specs.declared.calls.Answer.TheVariants.{Value}
+use Rattle.channel_calls.specs.Answer.{Value}
 use Rattle.channel_groups.proofs.memory_calls.on_memory.Goals as goal
 
 pub write-requires : goal.write-requires

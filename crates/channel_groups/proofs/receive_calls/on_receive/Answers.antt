@@ -5,7 +5,7 @@ use mathlib.Core.Path.{refl, ap}
 use Rattle.block.specs.Layout.{last_index}
 use Rattle.channel_calls.proofs.Accepted.{not_above, not_below}
 use Rattle.channel_groups.specs.Groups.{entry_answer}
-use Rattle.channel_calls.specs.declared.calls.Answer.TheVariants.{Arrived}
+use Rattle.channel_calls.specs.Answer.{Arrived}
 use Rattle.channel_groups.proofs.receive_calls.on_receive.Goals as goal
 
 pub read_fifo-entry-requires : goal.read_fifo-entry-requires

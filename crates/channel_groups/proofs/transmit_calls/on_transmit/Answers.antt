@@ -4,7 +4,7 @@ use native.Mathlib.Omega.{arith}
 use mathlib.Core.Path.{ap}
 use Rattle.ring.specs.Ring.{last_slot}
 use Rattle.channel_calls.proofs.Accepted.{not_above}
-use Rattle.channel_calls.specs.declared.calls.Answer.TheVariants.{Stepped}
+use Rattle.channel_calls.specs.Answer.{Stepped}
 use Rattle.channel_groups.proofs.transmit_calls.on_transmit.Goals as goal
 
 pub write_fifo-requires : goal.write_fifo-requires

@@ -2,7 +2,7 @@
 -- Assumes nothing.
 use Prim.Native.Nat.{ℕ}
 use mathlib.Core.Path.{ap, ◌∙◌}
-use Rattle.channel_calls.specs.declared.calls.Answer.TheVariants.{Done}
+use Rattle.channel_calls.specs.Answer.{Done}
 use Rattle.channel_calls.specs.Answers.{answer_unless}
 use Rattle.module.proofs.perform.perform.Goals as goal
 

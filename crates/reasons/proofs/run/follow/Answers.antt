@@ -2,7 +2,7 @@
 -- Assumes nothing.
 use Prim.Native.Nat.{◌+◌}
 use mathlib.Core.Path.{refl, sym, ap, ◌∙◌}
-use Rattle.channel_calls.specs.declared.calls.Answer.{Answer}
+use Rattle.channel_calls.specs.Answer.{Answer}
 use Rattle.following.specs.Course.{next}
 use borrow.Author.Rules.{rules}
 use Rattle.reasons.proofs.run.follow.Goals as goal

@@ -1,7 +1,7 @@
 -- `register_map::shown::shown` meets its contract: each answer is a case of the definition.
 -- Assumes nothing.
 use mathlib.Core.Path.{refl, ap}
-use Rattle.channel_calls.specs.declared.calls.Answer.TheVariants.{Value}
+use Rattle.channel_calls.specs.Answer.{Value}
 use Rattle.register_map.proofs.shown.shown.Goals as goal
 
 pub returns-in-Refused : goal.returns-in-Refused

@@ -1,7 +1,7 @@
 -- `registers::masked::masked` meets its contract: refused whole, or tried on each named channel.
 -- Assumes nothing.
 use mathlib.Core.Path.{sym, ap, ◌∙◌}
-use Rattle.channel_calls.specs.declared.calls.Answer.TheVariants.{Value}
+use Rattle.channel_calls.specs.Answer.{Value}
 use Rattle.module.proofs.Accepted.{refused, done}
 use borrow.Author.Rules.{rules}
 use Rattle.registers.proofs.masked.masked.Goals as goal

@@ -1,11 +1,8 @@
 -- `wide::refusals::effect_refusal` meets its contract: a read, a number in range and one outside are the cases of the definition.
 -- Assumes nothing.
-use Rattle.std.proofs.Common.{refl, arith}
+use Rattle.std.proofs.Common.{refl}
 use Rattle.wide.specs.Refusals.{argument_refusal}
 use Rattle.wide.proofs.refusals.effect_refusal.Goals as goal
-
-pub in_part-requires : goal.in_part-requires
-in_part-requires c = let place = rw c.in-Stores.is at c.requires in omega arith
 
 pub returns-then-in_part : goal.returns-then-in_part
 unfolding argument_refusal
