@@ -2,10 +2,8 @@
 -- Assumes nothing.
 use Prim.Native.Nat.{ℕ, ◌+◌, ◌-◌, ◌≤◌}
 use mathlib.Core.Path.{◌≡◌, sym, ap, ap₂, ◌∙◌}
-use mathlib.Core.Bool.{Bool, cond}
 use mathlib.Core.List.{List}
 use native.Mathlib.Omega.{arith}
-use borrow.Author.Tests.{ne_eqb}
 use borrow.Rule.Slice.PartMut.{put_mid, same_len_mid}
 use lib.ListN.{length, take, drop, set, length-set}
 use Rattle.block.specs.Layout.{word, block_words}
@@ -13,7 +11,7 @@ use Rattle.status.specs.Status.{faulty}
 use Rattle.block.specs.Refusals.{leave_unless}
 use Rattle.channel_calls.specs.Answers.{answer_unless}
 use Rattle.channel.specs.Channel.{block_answer, block_after}
-use Rattle.channel_calls.specs.Answer.{Answer, Refused}
+use Rattle.channel_calls.specs.Answer.{Answer}
 use Rattle.channel_calls.specs.declared.calls.ChannelCall.{ChannelCall}
 use Rattle.channel_calls.specs.declared.calls.Given.{Given}
 use Rattle.frame.specs.Layout.{stamp, threshold, most, base, block, with_block}
@@ -52,11 +50,7 @@ module _ (m : List ℕ) (ch : ℕ) (k : ChannelCall) (next before after : ℕ) (
         (f ∙ ap₂ (λ (g : Given) (b : List ℕ). block_after g k b) is (lent m ch l h next)),
   )
 
--- ---- a return after a refusal R was computed as r
-
-pub refused : (r R : ℕ) (a : Answer) (m' m : List ℕ) → r ≡ R → (r ≡ 0 → ⊥) → (Refused r ≡ answer_unless R a) × (m ≡ leave_unless R m' m)
-refused r R a m' m e no' = let z = ne_eqb R 0 (λ q. no' (e ∙ q)) in
-    (ap Refused e ∙ sym (ap (λ (t : Bool). cond t a (Refused R)) z), sym (ap (λ (t : Bool). cond t m' m) z))
+-- ---- the return of an accepted call
 
 pub done : (R : ℕ) (a a' : Answer) (m₁ m' m : List ℕ) → R ≡ 0 → a ≡ a' → m₁ ≡ m' → (a ≡ answer_unless R a') × (m₁ ≡ leave_unless R m' m)
 done R a a' m₁ m' m z p q = (rw z p, rw z q)

@@ -1,19 +1,22 @@
 -- `module::perform::perform` meets its contract: each call from what its callee ensures.
 -- Assumes nothing.
-use Prim.Native.Nat.{ℕ}
-use mathlib.Core.Path.{ap, ◌∙◌}
-use Rattle.channel_calls.specs.Answer.{Done}
-use Rattle.channel_calls.specs.Answers.{answer_unless}
+use mathlib.Core.Path.{refl}
+use Rattle.std.proofs.lemmas.Result.{err_from_is_err_and}
+use Rattle.channel_calls.proofs.Refused.{refused}
 use Rattle.module.proofs.perform.perform.Goals as goal
 
-pub returns-in-PowerUp : goal.returns-in-PowerUp
-returns-in-PowerUp c = rw c.in-PowerUp.is (record { answer = c.done_unless.ensures ∙ ap (λ (n : ℕ). answer_unless n Done) c.power_up.ensures.refusal; after = c.power_up.ensures.after })
+pub returns-in_err-power_up-in-PowerUp : goal.returns-in_err-power_up-in-PowerUp
+returns-in_err-power_up-in-PowerUp c =
+    let p = err_from_is_err_and c.from_residual.result c.from_residual.ensures.1 in
+    rw c.in-PowerUp.is (record { answer = rw (p.1, p.2) (refused _ _ _ c.in_err-power_up-in-PowerUp.ensures.refusal); after = c.power_up.ensures.after })
 
-pub returns-in-Reset : goal.returns-in-Reset
-returns-in-Reset c = rw c.in-Reset.is (record { answer = c.done_unless-in-Reset.ensures ∙ ap (λ (n : ℕ). answer_unless n Done) c.reset.ensures.refusal; after = c.reset.ensures.after })
+pub returns-in_ok-power_up-in-PowerUp : goal.returns-in_ok-power_up-in-PowerUp
+returns-in_ok-power_up-in-PowerUp c = rw c.in-PowerUp.is (record { answer = rw (← c.in_ok-power_up-in-PowerUp.ensures.refusal) refl; after = c.power_up.ensures.after })
 
-pub returns-in-Wide : goal.returns-in-Wide
-returns-in-Wide c = rw c.in-Wide.is (record { answer = c.on_module.ensures.answer; after = c.on_module.ensures.after })
+pub returns-in_err-reset-in-Reset : goal.returns-in_err-reset-in-Reset
+returns-in_err-reset-in-Reset c =
+    let p = err_from_is_err_and c.from_residual-in_err-reset-in-Reset.result c.from_residual-in_err-reset-in-Reset.ensures.1 in
+    rw c.in-Reset.is (record { answer = rw (p.1, p.2) (refused _ _ _ c.in_err-reset-in-Reset.ensures.refusal); after = c.reset.ensures.after })
 
-pub returns-in-On : goal.returns-in-On
-returns-in-On c = rw c.in-On.is (record { answer = c.on_channel.ensures.answer; after = c.on_channel.ensures.after })
+pub returns-in_ok-reset-in-Reset : goal.returns-in_ok-reset-in-Reset
+returns-in_ok-reset-in-Reset c = rw c.in-Reset.is (record { answer = rw (← c.in_ok-reset-in-Reset.ensures.refusal) refl; after = c.reset.ensures.after })
