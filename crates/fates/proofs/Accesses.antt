@@ -25,8 +25,7 @@ use Rattle.registers.specs.declared.accesses.Access.{Access}
 use Rattle.registers.specs.declared.accesses.Access.TheVariants.{Direct, ReadRegister, WriteRegister}
 use Rattle.register_map.specs.declared.map.Control.{Control}
 use Rattle.register_map.specs.declared.shown.Bits.{Bits}
-use Rattle.register_map.specs.declared.turned.Turned.{Turned}
-use Rattle.register_map.specs.declared.turned.Turned.TheVariants.{NotTurned, OneCall, EachNamed}
+use Rattle.register_map.specs.Turns.{Turned, NotTurned, OneCall, EachNamed}
 use Rattle.fates.specs.History.{History, Telling, Silent, Performed, write_tells, tells, history_step}
 use Rattle.fates.specs.Run.{lent}
 use Rattle.fates.specs.Agrees.{Agrees}

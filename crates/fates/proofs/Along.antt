@@ -31,8 +31,7 @@ use Rattle.registers.specs.Masked.{control_call, is_named, tried_on, tried_to, m
 use Rattle.registers.specs.declared.accesses.Access.{Access}
 use Rattle.registers.specs.declared.accesses.Access.TheVariants.{Direct, ReadRegister, WriteRegister}
 use Rattle.register_map.specs.declared.map.Control.{Control}
-use Rattle.register_map.specs.declared.turned.Turned.{Turned}
-use Rattle.register_map.specs.declared.turned.Turned.TheVariants.{NotTurned, OneCall, EachNamed}
+use Rattle.register_map.specs.Turns.{Turned, NotTurned, OneCall, EachNamed}
 use Rattle.fates.specs.History.{Telling, Silent, Performed, write_tells, tells, history}
 use Rattle.fates.specs.Run.{lent, run, told_by}
 use Rattle.fates.specs.Agrees.{Agrees}

@@ -39,8 +39,7 @@ use Rattle.registers.specs.declared.accesses.Access.{Access}
 use Rattle.registers.specs.declared.accesses.Access.TheVariants.{Direct, ReadRegister, WriteRegister}
 use Rattle.register_map.specs.declared.map.Control.{Control}
 use Rattle.register_map.specs.declared.map.Control.TheVariants.{TriggerEach, PauseEach, StopEach}
-use Rattle.register_map.specs.declared.turned.Turned.{Turned}
-use Rattle.register_map.specs.declared.turned.Turned.TheVariants.{NotTurned, OneCall, EachNamed}
+use Rattle.register_map.specs.Turns.{Turned, NotTurned, OneCall, EachNamed}
 use Rattle.module_laws.specs.Reduced.{reduced}
 use Rattle.module_laws.proofs.Sane.{sane_part, sane_wide}
 use Rattle.module_laws.proofs.Lent.{front, front_on, front_wide, front_reset, sane_on, part_short, short_on, short_wide, short_reset}

@@ -37,8 +37,7 @@ use Rattle.module.specs.declared.calls.Call.TheVariants.{PowerUp, Reset, Wide, O
 use Rattle.register_map.specs.Turned.{write_turned}
 use Rattle.registers.specs.declared.accesses.Access.{Access}
 use Rattle.registers.specs.declared.accesses.Access.TheVariants.{Direct, ReadRegister, WriteRegister}
-use Rattle.register_map.specs.declared.turned.Turned.{Turned}
-use Rattle.register_map.specs.declared.turned.Turned.TheVariants.{NotTurned, OneCall, EachNamed}
+use Rattle.register_map.specs.Turns.{Turned, NotTurned, OneCall, EachNamed}
 use Rattle.module_laws.specs.Reduced.{reduced}
 use Rattle.fates.specs.History.{History, Telling, Silent, Performed, write_tells, tells, effect_on, history}
 use Rattle.fates.specs.Ledger.{Side, Receiving, Transmitting, fifo_of, change_of, aside, Fits}

@@ -21,8 +21,7 @@ use Rattle.register_map.specs.declared.map.Control.{Control}
 use Rattle.register_map.specs.declared.map.Control.TheVariants.{TriggerEach, PauseEach, StopEach}
 use Rattle.register_map.specs.declared.map.Register.{Register}
 use Rattle.register_map.specs.declared.map.Register.TheVariants.{NoRegister, RateOf, AsyncOf, StatusOf, ScheduleOf, MessageOf, ControlOf}
-use Rattle.register_map.specs.declared.turned.Turned.{Turned}
-use Rattle.register_map.specs.declared.turned.Turned.TheVariants.{NotTurned, OneCall, EachNamed}
+use Rattle.register_map.specs.Turns.{Turned, NotTurned, OneCall, EachNamed}
 
 -- ---- calls that change nothing that a history keeps
 

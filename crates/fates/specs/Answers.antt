@@ -17,8 +17,7 @@ use Rattle.registers.specs.declared.accesses.Access.TheVariants.{Direct, ReadReg
 use Rattle.register_map.specs.declared.map.Control.{Control}
 use Rattle.register_map.specs.declared.map.Control.TheVariants.{TriggerEach, PauseEach, StopEach}
 use Rattle.register_map.specs.declared.shown.Bits.{Bits}
-use Rattle.register_map.specs.declared.turned.Turned.{Turned}
-use Rattle.register_map.specs.declared.turned.Turned.TheVariants.{NotTurned, OneCall, EachNamed}
+use Rattle.register_map.specs.Turns.{Turned, NotTurned, OneCall, EachNamed}
 use Rattle.module_laws.specs.Reduced.{reduced}
 use Rattle.fates.specs.History.{History}
 

@@ -13,8 +13,7 @@ use Rattle.module.specs.declared.calls.Call.TheVariants.{PowerUp, Reset, Wide, O
 use Rattle.register_map.specs.Turned.{write_turned}
 use Rattle.registers.specs.declared.accesses.Access.{Access}
 use Rattle.registers.specs.declared.accesses.Access.TheVariants.{Direct, ReadRegister, WriteRegister}
-use Rattle.register_map.specs.declared.turned.Turned.{Turned}
-use Rattle.register_map.specs.declared.turned.Turned.TheVariants.{NotTurned, OneCall, EachNamed}
+use Rattle.register_map.specs.Turns.{Turned, NotTurned, OneCall, EachNamed}
 
 -- "It keeps the stamp, all settings and, for each FIFO, the held entries and whole-number counts.", and the count of channels
 pub record History : Type 0 where

@@ -13,8 +13,7 @@ use Rattle.register_map.specs.Shown.{shown}
 use Rattle.register_map.specs.Turned.{read_turned, write_turned}
 use Rattle.registers.specs.declared.accesses.Access.{Access}
 use Rattle.registers.specs.declared.accesses.Access.TheVariants.{Direct, ReadRegister, WriteRegister}
-use Rattle.register_map.specs.declared.turned.Turned.{Turned}
-use Rattle.register_map.specs.declared.turned.Turned.TheVariants.{NotTurned, OneCall, EachNamed}
+use Rattle.register_map.specs.Turns.{Turned, NotTurned, OneCall, EachNamed}
 use Rattle.independence.specs.Names.{TurnedNames, Names}
 use Rattle.independence.specs.Theorem.{InEitherOrder, ChannelsApart}
 

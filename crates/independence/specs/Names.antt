@@ -5,8 +5,7 @@ use Rattle.module.specs.declared.calls.Call.TheVariants.{PowerUp, Reset, Wide, O
 use Rattle.register_map.specs.Turned.{read_turned, write_turned}
 use Rattle.registers.specs.declared.accesses.Access.{Access}
 use Rattle.registers.specs.declared.accesses.Access.TheVariants.{Direct, ReadRegister, WriteRegister}
-use Rattle.register_map.specs.declared.turned.Turned.{Turned}
-use Rattle.register_map.specs.declared.turned.Turned.TheVariants.{NotTurned, OneCall, EachNamed}
+use Rattle.register_map.specs.Turns.{Turned, NotTurned, OneCall, EachNamed}
 
 -- "Document 01's module-wide calls .. are excepted by name": power-up, module reset, the stamp's calls, resolution and threshold name no channel
 abbrev pub CallNames : Call → ℕ → Type 0

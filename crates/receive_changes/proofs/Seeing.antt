@@ -33,8 +33,7 @@ use Rattle.registers.specs.declared.accesses.Access.{Access}
 use Rattle.registers.specs.declared.accesses.Access.TheVariants.{Direct, ReadRegister, WriteRegister}
 use Rattle.register_map.specs.declared.map.Register.{Register}
 use Rattle.register_map.specs.declared.map.Register.TheVariants.{NoRegister, RateOf, AsyncOf, StatusOf, ScheduleOf, MessageOf, ControlOf}
-use Rattle.register_map.specs.declared.turned.Turned.{Turned}
-use Rattle.register_map.specs.declared.turned.Turned.TheVariants.{NotTurned, OneCall, EachNamed}
+use Rattle.register_map.specs.Turns.{Turned, NotTurned, OneCall, EachNamed}
 use Rattle.fates.specs.History.{History, Telling, Silent, Performed, write_tells, tells, effect_on, history}
 use Rattle.receive_changes.specs.Changes.{happening, left, by_mode, by_setting, by_outcome, by_arrival, by_read, on_called, by_call, by_access}
 use Rattle.receive_changes.specs.declared.Seen.{Seen}

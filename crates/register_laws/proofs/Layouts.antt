@@ -20,8 +20,7 @@ use Rattle.module_laws.proofs.Layouts.{other_layout_refused}
 use Rattle.register_map.specs.Shown.{shown}
 use Rattle.registers.specs.Access.{turned_answer, turned_after}
 use Rattle.register_map.specs.Turned.{read_turned, write_turned}
-use Rattle.register_map.specs.declared.turned.Turned.{Turned}
-use Rattle.register_map.specs.declared.turned.Turned.TheVariants.{NotTurned, OneCall, EachNamed}
+use Rattle.register_map.specs.Turns.{Turned, NotTurned, OneCall, EachNamed}
 use Rattle.register_laws.specs.Layouts.{OtherLayoutRefusedByRegisters}
 
 -- a call on a channel is no power-up

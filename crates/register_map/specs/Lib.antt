@@ -1,3 +1,4 @@
 pub mod Map
 pub mod Shown
 pub mod Turned
+pub mod Turns

@@ -11,8 +11,7 @@ use Rattle.register_map.specs.Map.{bytes, register_at}
 use Rattle.register_map.specs.declared.map.Register.{Register}
 use Rattle.register_map.specs.declared.map.Register.TheVariants.{NoRegister, RateOf, AsyncOf, StatusOf, ScheduleOf, MessageOf, ControlOf}
 use Rattle.register_map.specs.declared.shown.Bits.TheVariants.{AllBits, CommandBits, StatusBits}
-use Rattle.register_map.specs.declared.turned.Turned.{Turned}
-use Rattle.register_map.specs.declared.turned.Turned.TheVariants.{NotTurned, OneCall, EachNamed}
+use Rattle.register_map.specs.Turns.{Turned, NotTurned, OneCall, EachNamed}
 
 -- "30 not aligned to four, 31 no register of twelve channels .., 32 wrong way (status only reads; trigger, pause and stop only write), in that
 -- order"

@@ -1,8 +1,9 @@
 // How a register shows what its call answers.
 ghost use Rattle.std.specs.Prelude.{◌≡◌};
+ghost use Rattle.channel_calls.specs.Answer.{accepted};
 ghost use Rattle.register_map.specs.Shown.{status_bits, bits_of, shown};
 
-use channel_calls::calls::Answer;
+use channel_calls::calls::Reply;
 
 // Which bits of a value a register has.
 #[derive(Drop)]
@@ -56,17 +57,16 @@ fn bits_of(bits: Bits, value: u32) -> u32
 }
 
 // A register's answer by that of its call: a value, 0 for a write that is done, or the same refusal.
-pub fn shown(bits: Bits, answer: Answer) -> Answer
-    ensures { result ≡ shown bits answer }
+pub fn shown(bits: Bits, reply: Reply) -> Reply
+    ensures { accepted result ≡ shown bits (accepted reply) }
 {
-    match answer {
-        Answer::Done => Answer::Value(0),
-        Answer::Refused(number) => Answer::Refused(number),
-        Answer::Value(x) => Answer::Value(bits_of(bits, x)),
-        Answer::Waiting(_, word) => Answer::Value(bits_of(bits, word)),
-        Answer::Fates(_, _, _, _, _, _, _) => Answer::Value(0),
-        Answer::Arrived(_) => Answer::Value(0),
-        Answer::Entry(_, _, _) => Answer::Value(0),
-        Answer::Stepped(_) => Answer::Value(0),
+    match reply {
+        Reply::Done => Reply::Value(0),
+        Reply::Value(x) => Reply::Value(bits_of(bits, x)),
+        Reply::Waiting(_, word) => Reply::Value(bits_of(bits, word)),
+        Reply::Fates(_, _, _, _, _, _, _) => Reply::Value(0),
+        Reply::Arrived(_) => Reply::Value(0),
+        Reply::Entry(_, _, _) => Reply::Value(0),
+        Reply::Stepped(_) => Reply::Value(0),
     }
 }

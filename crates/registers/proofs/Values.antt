@@ -19,8 +19,7 @@ use Rattle.registers.specs.Access.{turned_answer, access_answer, access_values, 
 use Rattle.registers.specs.declared.accesses.Access.{Access}
 use Rattle.registers.specs.declared.accesses.Access.TheVariants.{Direct, ReadRegister, WriteRegister}
 use Rattle.register_map.specs.declared.shown.Bits.{Bits}
-use Rattle.register_map.specs.declared.turned.Turned.{Turned}
-use Rattle.register_map.specs.declared.turned.Turned.TheVariants.{NotTurned, OneCall, EachNamed}
+use Rattle.register_map.specs.Turns.{Turned, NotTurned, OneCall, EachNamed}
 
 shown-listed : (bits : Bits) (a : Answer) → length (numbers_of 1 (shown bits a)) ≡ 2
 shown-listed bits Done = refl

@@ -9,8 +9,7 @@ use Rattle.register_map.specs.Turned.{read_turned, write_turned}
 use Rattle.registers.specs.Masked.{masked_answer, masked_after}
 use Rattle.registers.specs.declared.accesses.Access.{Access}
 use Rattle.registers.specs.declared.accesses.Access.TheVariants.{Direct, ReadRegister, WriteRegister}
-use Rattle.register_map.specs.declared.turned.Turned.{Turned}
-use Rattle.register_map.specs.declared.turned.Turned.TheVariants.{NotTurned, OneCall, EachNamed}
+use Rattle.register_map.specs.Turns.{Turned, NotTurned, OneCall, EachNamed}
 
 -- refused before document 01's numbers; that call on that channel; or each named channel
 abbrev pub turned_answer : Turned → List ℕ → Answer

@@ -1,11 +1,12 @@
 // A masked write: trigger, pause or stop, on each channel that the mask names.
 ghost use Rattle.std.specs.Prelude.{◌≡◌, ◌≤◌};
 ghost use Rattle.frame.specs.Layout.{most};
-ghost use Rattle.channel_calls.specs.Answers.{is_refused};
+ghost use Rattle.channel_calls.specs.Answer.{answered};
 ghost use Rattle.registers.specs.Masked.{control_call, tried_on, refused_on, tried_to, refused_to, masked_answer, masked_after};
 
 use bits::weight;
-use channel_calls::calls::{Answer, ChannelCall, TransmitCall};
+use block::refusal::Refusal;
+use channel_calls::calls::{ChannelCall, Reply, TransmitCall};
 use frame::layout::MOST;
 use register_map::map::Control;
 
@@ -19,21 +20,6 @@ fn control_call(control: Control) -> ChannelCall
     }
 }
 
-fn is_refused(answer: Answer) -> bool
-    ensures { result ≡ is_refused answer }
-{
-    match answer {
-        Answer::Done => false,
-        Answer::Refused(_) => true,
-        Answer::Value(_) => false,
-        Answer::Waiting(_, _) => false,
-        Answer::Fates(_, _, _, _, _, _, _) => false,
-        Answer::Arrived(_) => false,
-        Answer::Entry(_, _, _) => false,
-        Answer::Stepped(_) => false,
-    }
-}
-
 // Tries one channel: its bit of the answer's mask, where it is named and refuses, else 0.
 fn try_on(mem: &mut [u32], control: Control, mask: u32, channel: u32) -> u32
     requires { (1 ≤ channel) × (channel ≤ most) }
@@ -43,11 +29,10 @@ fn try_on(mem: &mut [u32], control: Control, mask: u32, channel: u32) -> u32
     if (mask >> (channel - 1)) % 2 == 0 {
         return 0;
     }
-    let answer = module::on_channel::on_channel(mem, channel, control_call(control));
-    if is_refused(answer) {
-        return weight(channel - 1);
+    match module::on_channel::on_channel(mem, channel, control_call(control)) {
+        Ok(_) => 0,
+        Err(_) => weight(channel - 1),
     }
-    0
 }
 
 // Tries the channels in order: the mask of those that refused.
@@ -56,22 +41,17 @@ fn try_each(mem: &mut [u32], control: Control, mask: u32) -> u32
     ensures after { mem.new ≡ tried_to control mask most mem.old }
 {
     let mut refused = 0;
-    let mut channel = 0;
-    while channel < MOST {
-        channel += 1;
-        refused += try_on(mem, control, mask, channel);
+    for channel in 0..MOST {
+        refused += try_on(mem, control, mask, channel + 1);
     }
     refused
 }
 
 // A masked write, refused whole by the module part, or tried on each named channel.
-pub fn masked(mem: &mut [u32], control: Control, mask: u32) -> Answer
-    ensures answer { result ≡ masked_answer control mask mem.old }
+pub fn masked(mem: &mut [u32], control: Control, mask: u32) -> Result<Reply, Refusal>
+    ensures answer { answered result ≡ masked_answer control mask mem.old }
     ensures after { mem.new ≡ masked_after control mask mem.old }
 {
-    let part = frame::refusals::part_refusal(mem);
-    if part != 0 {
-        return Answer::Refused(part);
-    }
-    Answer::Value(try_each(mem, control, mask))
+    frame::refusals::part_refusal(mem)?;
+    Ok(Reply::Value(try_each(mem, control, mask)))
 }

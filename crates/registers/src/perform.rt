@@ -1,29 +1,31 @@
 // The entry for accesses.
 ghost use Rattle.std.specs.Prelude.{◌≡◌};
+ghost use Rattle.channel_calls.specs.Answer.{answered};
+ghost use Rattle.register_map.specs.Turns.{turned_to};
 ghost use Rattle.registers.specs.Access.{turned_answer, turned_after, access_answer, access_after};
 
 use crate::accesses::Access;
-use channel_calls::calls::Answer;
-use register_map::turned::Turned;
+use block::refusal::Refusal;
+use channel_calls::calls::Reply;
+use register_map::turned::Asked;
 
-// Performs what a register access was turned into.
-fn perform_turned(mem: &mut [u32], turned: Turned) -> Answer
-    ensures answer { result ≡ turned_answer turned mem.old }
-    ensures after { mem.new ≡ turned_after turned mem.old }
+// Performs what a register access asks for.
+fn perform_turned(mem: &mut [u32], turned: Result<Asked, Refusal>) -> Result<Reply, Refusal>
+    ensures answer { answered result ≡ turned_answer (turned_to turned) mem.old }
+    ensures after { mem.new ≡ turned_after (turned_to turned) mem.old }
 {
-    match turned {
-        Turned::NotTurned(number) => Answer::Refused(number),
-        Turned::OneCall(channel, call, bits) => {
-            let answer = module::on_channel::on_channel(mem, channel, call);
-            register_map::shown::shown(bits, answer)
+    match turned? {
+        Asked::OneCall(channel, call, bits) => {
+            let reply = module::on_channel::on_channel(mem, channel, call)?;
+            Ok(register_map::shown::shown(bits, reply))
         }
-        Turned::EachNamed(control, mask) => crate::masked::masked(mem, control, mask),
+        Asked::EachNamed(control, mask) => crate::masked::masked(mem, control, mask),
     }
 }
 
 // Performs an access on lent memory: any memory and any numbers.
-pub fn perform(mem: &mut [u32], access: Access) -> Answer
-    ensures answer { result ≡ access_answer access mem.old }
+pub fn perform(mem: &mut [u32], access: Access) -> Result<Reply, Refusal>
+    ensures answer { answered result ≡ access_answer access mem.old }
     ensures after { mem.new ≡ access_after access mem.old }
 {
     match access {

@@ -1,13 +1,17 @@
 -- `registers::masked::masked` meets its contract: refused whole, or tried on each named channel.
 -- Assumes nothing.
-use mathlib.Core.Path.{sym, ap, ◌∙◌}
+use mathlib.Core.Path.{sym, ap}
+use Rattle.std.proofs.lemmas.Result.{err_from_is_err_and}
+use Rattle.block.proofs.Refusals.{kept}
 use Rattle.channel_calls.specs.Answer.{Value}
-use Rattle.module.proofs.Accepted.{refused, done}
-use borrow.Author.Rules.{rules}
+use Rattle.channel_calls.proofs.Refused.{refused}
+use Rattle.module.proofs.Accepted.{done}
 use Rattle.registers.proofs.masked.masked.Goals as goal
 
-pub returns-then-part-ne0 : goal.returns-then-part-ne0
-returns-then-part-ne0 c = let both = refused _ _ _ _ _ c.part_refusal-part.ensures c.if-part-ne0.true in record { answer = both.0; after = both.1 }
+pub returns-in_err-part_refusal : goal.returns-in_err-part_refusal
+returns-in_err-part_refusal c =
+    let p = err_from_is_err_and c.from_residual.result c.from_residual.ensures.1 in
+    record { answer = rw (p.1, p.2) (refused _ _ _ c.in_err-part_refusal.ensures); after = kept _ _ _ _ c.in_err-part_refusal.ensures }
 
 pub returns : goal.returns
-returns c = let both = done _ _ _ _ _ _ (sym c.part_refusal-part.ensures ∙ c.if-part-ne0.false) (ap Value c.try_each.ensures.answer) c.try_each.ensures.after in record { answer = both.0; after = both.1 }
+returns c = let both = done _ _ _ _ _ _ (sym c.in_ok-part_refusal.ensures) (ap Value c.try_each.ensures.answer) c.try_each.ensures.after in record { answer = both.0; after = both.1 }
