@@ -1,11 +1,14 @@
 // An answer as a list of numbers: the answer's number, then its values.
 ghost use Rattle.std.specs.Prelude.{◌≡◌};
 ghost use Rattle.arrival.specs.Arrival.{outcome};
+ghost use Rattle.channel_calls.specs.Answer.{accepted, answered};
+ghost use Rattle.channel_calls.specs.Answers.{numbers_of};
 ghost use Rattle.registers.specs.Access.{access_numbers};
 ghost use Rattle.calls.specs.Listed.{Lists};
 
 use arrival::Arrival;
-use channel_calls::calls::Answer;
+use block::refusal::Refusal;
+use channel_calls::calls::Reply;
 use registers::accesses::Access;
 
 // The numbers in the first `count` words, and zeros behind them.
@@ -30,42 +33,51 @@ pub fn outcome(arrival: Arrival) -> u32
 }
 
 // The numbers of an access's answer. A refusal has its number and as many zeros as the access has values.
-pub fn numbers_of(access: Access, answer: Answer) -> Numbers
-    ensures { Lists result (access_numbers access answer) }
+pub fn numbers_of(access: Access, answer: Result<Reply, Refusal>) -> Numbers
+    ensures { Lists result (access_numbers access (answered answer)) }
 {
     match answer {
-        Answer::Done => Numbers {
+        Err(refusal) => Numbers {
+            count: 1 + answer_values::values(access),
+            words: [u32::from(refusal), 0, 0, 0, 0, 0, 0, 0],
+        },
+        Ok(reply) => values_of(reply),
+    }
+}
+
+// The numbers of a reply: 0, and its values.
+fn values_of(reply: Reply) -> Numbers
+    ensures { Lists result (numbers_of 0 (accepted reply)) }
+{
+    match reply {
+        Reply::Done => Numbers {
             count: 1,
             words: [0, 0, 0, 0, 0, 0, 0, 0],
         },
-        Answer::Refused(number) => Numbers {
-            count: 1 + answer_values::values(access),
-            words: [number, 0, 0, 0, 0, 0, 0, 0],
-        },
-        Answer::Value(x) => Numbers {
+        Reply::Value(x) => Numbers {
             count: 2,
             words: [0, x, 0, 0, 0, 0, 0, 0],
         },
-        Answer::Waiting(mark, word) => Numbers {
+        Reply::Waiting(mark, word) => Numbers {
             count: 3,
             words: [0, mark, word, 0, 0, 0, 0, 0],
         },
-        Answer::Fates(a, r, c, o, t, s, d) => Numbers {
+        Reply::Fates(a, r, c, o, t, s, d) => Numbers {
             count: 8,
             words: [0, a, r, c, o, t, s, d],
         },
-        Answer::Arrived(arrival) => {
+        Reply::Arrived(arrival) => {
             let what = outcome(arrival);
             Numbers {
                 count: 2,
                 words: [0, what, 0, 0, 0, 0, 0, 0],
             }
         }
-        Answer::Entry(status, word, stamp) => Numbers {
+        Reply::Entry(status, word, stamp) => Numbers {
             count: 4,
             words: [0, status, word, stamp, 0, 0, 0, 0],
         },
-        Answer::Stepped(output) => {
+        Reply::Stepped(output) => {
             let v = schedule::values(output);
             Numbers {
                 count: 5,

@@ -1,10 +1,12 @@
 // What becomes of one arrival, followed from access to access.
 ghost use Rattle.std.specs.Prelude.{◌≡◌, ◌<◌};
+ghost use Rattle.channel_calls.specs.Answer.{accepted, answered};
 ghost use Rattle.following.specs.Course.{most_held, held_before, level_after, gone, waiting_after, passed, entered_by, entered_with, arrived, next, reason_by};
 
 use arrival::Arrival;
 use block::modes::FIFO_MODE;
-use channel_calls::calls::Answer;
+use block::refusal::Refusal;
+use channel_calls::calls::Reply;
 use receive_changes::Happening;
 use registers::accesses::Access;
 
@@ -126,24 +128,33 @@ fn entered_by(level: u32, outcome: Arrival) -> Course
 }
 
 // The arrival with its answer.
-fn entered_with(level: u32, answer: Answer) -> Course
-    ensures { result ≡ entered_with level answer }
+fn entered_with(level: u32, answer: Result<Reply, Refusal>) -> Course
+    ensures { result ≡ entered_with level (answered answer) }
 {
     match answer {
-        Answer::Done => Course::Known(Reason::NoReason),
-        Answer::Refused(number) => Course::Known(Reason::RefusedBy(number)),
-        Answer::Value(_) => Course::Known(Reason::NoReason),
-        Answer::Waiting(_, _) => Course::Known(Reason::NoReason),
-        Answer::Fates(_, _, _, _, _, _, _) => Course::Known(Reason::NoReason),
-        Answer::Arrived(outcome) => entered_by(level, outcome),
-        Answer::Entry(_, _, _) => Course::Known(Reason::NoReason),
-        Answer::Stepped(_) => Course::Known(Reason::NoReason),
+        Ok(reply) => entered_as(level, reply),
+        Err(refusal) => Course::Known(Reason::RefusedBy(u32::from(refusal))),
+    }
+}
+
+// The arrival with its reply: an outcome.
+fn entered_as(level: u32, reply: Reply) -> Course
+    ensures { result ≡ entered_with level (accepted reply) }
+{
+    match reply {
+        Reply::Done => Course::Known(Reason::NoReason),
+        Reply::Value(_) => Course::Known(Reason::NoReason),
+        Reply::Waiting(_, _) => Course::Known(Reason::NoReason),
+        Reply::Fates(_, _, _, _, _, _, _) => Course::Known(Reason::NoReason),
+        Reply::Arrived(outcome) => entered_by(level, outcome),
+        Reply::Entry(_, _, _) => Course::Known(Reason::NoReason),
+        Reply::Stepped(_) => Course::Known(Reason::NoReason),
     }
 }
 
 // The arrival itself.
-fn arrived(course: Course, answer: Answer) -> Course
-    ensures { result ≡ arrived course answer }
+fn arrived(course: Course, answer: Result<Reply, Refusal>) -> Course
+    ensures { result ≡ arrived course (answered answer) }
 {
     match course {
         Course::Coming(level) => entered_with(level, answer),
@@ -152,9 +163,9 @@ fn arrived(course: Course, answer: Answer) -> Course
     }
 }
 
-fn course_after(course: Course, happening: Happening, place: u32, at: u32, answer: Answer) -> Course
+fn course_after(course: Course, happening: Happening, place: u32, at: u32, answer: Result<Reply, Refusal>) -> Course
     requires { held_before course < most_held }
-    ensures { result ≡ Rattle.following.specs.Course.course_after course happening place at answer }
+    ensures { result ≡ Rattle.following.specs.Course.course_after course happening place at (answered answer) }
 {
     if at == place {
         return arrived(course, answer);
@@ -169,10 +180,10 @@ pub fn next(
     place: u32,
     at: u32,
     access: Access,
-    answer: Answer,
+    answer: Result<Reply, Refusal>,
 ) -> Watch
     requires { held_before watch.course < most_held }
-    ensures { result ≡ next channel place at access answer watch }
+    ensures { result ≡ next channel place at access (answered answer) watch }
 {
     let mode = watch.mode;
     let course = watch.course;

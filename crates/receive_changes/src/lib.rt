@@ -2,12 +2,13 @@
 #![tactic(auto)]
 
 ghost use Rattle.std.specs.Prelude.{◌≡◌};
-ghost use Rattle.channel_calls.specs.Answers.{is_refused};
+ghost use Rattle.channel_calls.specs.Answer.{accepted, answered};
 ghost use Rattle.receive_changes.specs.Changes.{left, by_setting, by_settings, by_test, by_outcome, by_arrival, by_read, by_receive, on_called, by_call, by_access};
 
 use arrival::Arrival;
 use block::modes::FIFO_MODE;
-use channel_calls::calls::{Answer, ChannelCall, ReceiveCall, Setting, SettingCall, TestCall};
+use block::refusal::Refusal;
+use channel_calls::calls::{ChannelCall, ReceiveCall, Reply, Setting, SettingCall, TestCall};
 use module::calls::Call;
 use registers::accesses::Access;
 
@@ -115,52 +116,50 @@ fn by_outcome(mode: u32, outcome: Arrival) -> Seen
     }
 }
 
-fn by_arrival(mode: u32, answer: Answer) -> Seen
-    ensures { result ≡ by_arrival mode answer }
+fn by_arrival(mode: u32, reply: Reply) -> Seen
+    ensures { result ≡ by_arrival mode (accepted reply) }
 {
-    match answer {
-        Answer::Done => left(mode),
-        Answer::Refused(_) => left(mode),
-        Answer::Value(_) => left(mode),
-        Answer::Waiting(_, _) => left(mode),
-        Answer::Fates(_, _, _, _, _, _, _) => left(mode),
-        Answer::Arrived(outcome) => by_outcome(mode, outcome),
-        Answer::Entry(_, _, _) => left(mode),
-        Answer::Stepped(_) => left(mode),
+    match reply {
+        Reply::Done => left(mode),
+        Reply::Value(_) => left(mode),
+        Reply::Waiting(_, _) => left(mode),
+        Reply::Fates(_, _, _, _, _, _, _) => left(mode),
+        Reply::Arrived(outcome) => by_outcome(mode, outcome),
+        Reply::Entry(_, _, _) => left(mode),
+        Reply::Stepped(_) => left(mode),
     }
 }
 
-fn by_read(mode: u32, answer: Answer) -> Seen
-    ensures { result ≡ by_read mode answer }
+fn by_read(mode: u32, reply: Reply) -> Seen
+    ensures { result ≡ by_read mode (accepted reply) }
 {
-    match answer {
-        Answer::Done => left(mode),
-        Answer::Refused(_) => left(mode),
-        Answer::Value(_) => left(mode),
-        Answer::Waiting(_, _) => left(mode),
-        Answer::Fates(_, _, _, _, _, _, _) => left(mode),
-        Answer::Arrived(_) => left(mode),
-        Answer::Entry(_, _, _) => Seen {
+    match reply {
+        Reply::Done => left(mode),
+        Reply::Value(_) => left(mode),
+        Reply::Waiting(_, _) => left(mode),
+        Reply::Fates(_, _, _, _, _, _, _) => left(mode),
+        Reply::Arrived(_) => left(mode),
+        Reply::Entry(_, _, _) => Seen {
             happening: Happening::OldestRead,
             mode,
         },
-        Answer::Stepped(_) => left(mode),
+        Reply::Stepped(_) => left(mode),
     }
 }
 
-fn by_receive(mode: u32, call: ReceiveCall, answer: Answer) -> Seen
-    ensures { result ≡ by_receive mode call answer }
+fn by_receive(mode: u32, call: ReceiveCall, reply: Reply) -> Seen
+    ensures { result ≡ by_receive mode call (accepted reply) }
 {
     match call {
-        ReceiveCall::Arrive(_) => by_arrival(mode, answer),
-        ReceiveCall::ReadFifo => by_read(mode, answer),
+        ReceiveCall::Arrive(_) => by_arrival(mode, reply),
+        ReceiveCall::ReadFifo => by_read(mode, reply),
         ReceiveCall::ReadMailbox(_) => left(mode),
     }
 }
 
 // An accepted call on the channel.
-fn on_called(mode: u32, call: ChannelCall, answer: Answer) -> Seen
-    ensures { result ≡ on_called mode call answer }
+fn on_called(mode: u32, call: ChannelCall, reply: Reply) -> Seen
+    ensures { result ≡ on_called mode call (accepted reply) }
 {
     match call {
         ChannelCall::Settings(k) => by_settings(mode, k),
@@ -168,24 +167,24 @@ fn on_called(mode: u32, call: ChannelCall, answer: Answer) -> Seen
         ChannelCall::Status(_) => left(mode),
         ChannelCall::Tests(k) => by_test(mode, k),
         ChannelCall::Reads(_) => left(mode),
-        ChannelCall::Receive(k) => by_receive(mode, k, answer),
+        ChannelCall::Receive(k) => by_receive(mode, k, reply),
         ChannelCall::Transmit(_) => left(mode),
     }
 }
 
 // An accepted call on a channel, by its number.
-fn on_channel(channel: u32, mode: u32, named: u32, call: ChannelCall, answer: Answer) -> Seen
-    ensures { result ≡ Rattle.receive_changes.specs.Changes.on_channel channel mode named call answer }
+fn on_channel(channel: u32, mode: u32, named: u32, call: ChannelCall, reply: Reply) -> Seen
+    ensures { result ≡ Rattle.receive_changes.specs.Changes.on_channel channel mode named call (accepted reply) }
 {
     if named == channel {
-        return on_called(mode, call, answer);
+        return on_called(mode, call, reply);
     }
     left(mode)
 }
 
 // An accepted call.
-fn by_call(channel: u32, mode: u32, call: Call, answer: Answer) -> Seen
-    ensures { result ≡ by_call channel mode call answer }
+fn by_call(channel: u32, mode: u32, call: Call, reply: Reply) -> Seen
+    ensures { result ≡ by_call channel mode call (accepted reply) }
 {
     match call {
         Call::PowerUp(_) => Seen {
@@ -197,37 +196,23 @@ fn by_call(channel: u32, mode: u32, call: Call, answer: Answer) -> Seen
             mode: FIFO_MODE,
         },
         Call::Wide(_) => left(mode),
-        Call::On(named, k) => on_channel(channel, mode, named, k, answer),
+        Call::On(named, k) => on_channel(channel, mode, named, k, reply),
     }
 }
 
-fn is_refused(answer: Answer) -> bool
-    ensures { result ≡ is_refused answer }
+// A call with its answer: a refused one changes nothing.
+fn directly(channel: u32, mode: u32, call: Call, answer: Result<Reply, Refusal>) -> Seen
+    ensures { result ≡ Rattle.receive_changes.specs.Changes.directly channel mode call (answered answer) }
 {
     match answer {
-        Answer::Done => false,
-        Answer::Refused(_) => true,
-        Answer::Value(_) => false,
-        Answer::Waiting(_, _) => false,
-        Answer::Fates(_, _, _, _, _, _, _) => false,
-        Answer::Arrived(_) => false,
-        Answer::Entry(_, _, _) => false,
-        Answer::Stepped(_) => false,
+        Ok(reply) => by_call(channel, mode, call, reply),
+        Err(_) => left(mode),
     }
-}
-
-fn directly(channel: u32, mode: u32, call: Call, answer: Answer) -> Seen
-    ensures { result ≡ Rattle.receive_changes.specs.Changes.directly channel mode call answer }
-{
-    if is_refused(answer) {
-        return left(mode);
-    }
-    by_call(channel, mode, call, answer)
 }
 
 // An access with its answer. A register access never changes a receive FIFO.
-pub fn by_access(channel: u32, mode: u32, access: Access, answer: Answer) -> Seen
-    ensures { result ≡ by_access channel mode access answer }
+pub fn by_access(channel: u32, mode: u32, access: Access, answer: Result<Reply, Refusal>) -> Seen
+    ensures { result ≡ by_access channel mode access (answered answer) }
 {
     match access {
         Access::Direct(call) => directly(channel, mode, call, answer),
