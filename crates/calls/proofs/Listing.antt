@@ -8,6 +8,10 @@ use lib.ListN.{length, replicate, get_or, length-append, length-replicate, repli
 use Rattle.schedule.specs.Output.{values}
 use Rattle.schedule.specs.declared.Output.{Output}
 use Rattle.schedule.specs.declared.Output.TheVariants.{Quiet, FifoWord, Message, Null, Async, Reserved, NullMessage}
+use Rattle.channel_calls.specs.Answer.{accepted}
+use Rattle.channel_calls.specs.Answers.{numbers_of}
+use Rattle.channel_calls.specs.declared.calls.Reply.{Reply}
+use Rattle.channel_calls.specs.declared.calls.Reply.TheVariants as reply
 use Rattle.calls.specs.Listed.{Lists}
 use Rattle.calls.specs.declared.answers.Numbers.{Numbers}
 
@@ -33,3 +37,13 @@ stepped (NullMessage w) v e = rw e (refl, refl)
 -- the count is at most the number of words
 pub within : (n : Numbers) (l : List ℕ) → Lists n l → n.count ≤ length n.words
 within n l (c, w) = rw (c, w, length-append l (replicate {A = ℕ} (8 - length l) 0)) (omega arith)
+
+-- a reply has its own values, whatever a refusal of the same access would have
+pub any_values : (n : ℕ) (r : Reply) → numbers_of 0 (accepted r) ≡ numbers_of n (accepted r)
+any_values n reply.Done = refl
+any_values n (reply.Value x) = refl
+any_values n (reply.Waiting m w) = refl
+any_values n (reply.Fates a r c o t s d) = refl
+any_values n (reply.Arrived a) = refl
+any_values n (reply.Entry s w t) = refl
+any_values n (reply.Stepped o) = refl

@@ -1,30 +1,11 @@
--- `calls::answers::numbers_of` meets its contract: each answer is a case of the definition; a refusal's zeros and a step's four numbers by their laws.
+-- `calls::answers::numbers_of` meets its contract: a refusal's zeros and a reply's values by their laws.
 -- Assumes nothing.
-use mathlib.Core.Path.{refl}
 use Rattle.registers.specs.Access.{access_values}
-use Rattle.calls.proofs.Listing.{refused, stepped}
+use Rattle.calls.proofs.Listing.{refused, any_values}
 use Rattle.calls.proofs.answers.numbers_of.Goals as goal
 
-pub returns-in-Done : goal.returns-in-Done
-returns-in-Done c = rw c.in-Done.is (refl, refl)
+pub returns-in-Err : goal.returns-in-Err
+returns-in-Err c = rw (c.in-Err.is, c.from.ensures) (refused _ (access_values c.args.access) c.values.result (c.values.ensures.value, c.values.ensures.bound))
 
-pub returns-in-Refused : goal.returns-in-Refused
-returns-in-Refused c = rw c.in-Refused.is (refused c.in-Refused.number (access_values c.args.access) c.values.result (c.values.ensures.value, c.values.ensures.bound))
-
-pub returns-in-Value : goal.returns-in-Value
-returns-in-Value c = rw c.in-Value.is (refl, refl)
-
-pub returns-in-Waiting : goal.returns-in-Waiting
-returns-in-Waiting c = rw c.in-Waiting.is (refl, refl)
-
-pub returns-in-Fates : goal.returns-in-Fates
-returns-in-Fates c = rw c.in-Fates.is (refl, refl)
-
-pub returns-in-Arrived : goal.returns-in-Arrived
-returns-in-Arrived c = rw (c.in-Arrived.is, c.outcome-what.ensures) (refl, refl)
-
-pub returns-in-Entry : goal.returns-in-Entry
-returns-in-Entry c = rw c.in-Entry.is (refl, refl)
-
-pub returns-in-Stepped : goal.returns-in-Stepped
-returns-in-Stepped c = rw c.in-Stepped.is (stepped c.in-Stepped.output c.values-v.result c.values-v.ensures)
+pub returns-in-Ok : goal.returns-in-Ok
+returns-in-Ok c = rw (c.in-Ok.is, ← any_values (access_values c.args.access) c.in-Ok.reply) c.values_of.ensures
