@@ -46,7 +46,7 @@ fn reason_for(count: u32, bytes: &[u8], place: u32, mem: &mut [u32]) -> Reason
     ensures answer { result ≡ reason_for count bytes.now place mem.old }
     ensures after { mem.new ≡ state_after count bytes.now mem.old }
 {
-    power::power_up(mem, count);
+    let _ = power::power_up(mem, count);
     let channel = items_of::channel_at(bytes, place);
     following::course::reason_of(run::run(mem, bytes, channel, place))
 }

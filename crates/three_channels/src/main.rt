@@ -4,8 +4,9 @@
 use arrival::Arrival;
 use block::layout::WORDS;
 use block::modes::{CIRCULAR, SCHEDULED};
+use block::refusal::Refusal;
 use channel_calls::calls::{
-    Answer, ChannelCall, MemoryCall, ReadCall, ReceiveCall, Setting, SettingCall, StatusCall,
+    ChannelCall, MemoryCall, ReadCall, ReceiveCall, Reply, Setting, SettingCall, StatusCall,
     TransmitCall,
 };
 use frame::layout::MODULE_WORDS;
@@ -85,27 +86,27 @@ fn show_fates(out: &mut impl Write, received: u32, read: u32, cleared: u32, over
     number(out, overwritten);
 }
 
-fn show(out: &mut impl Write, answer: Answer) {
+fn show(out: &mut impl Write, answer: Result<Reply, Refusal>) {
     match answer {
-        Answer::Done => write(out, b" done"),
-        Answer::Refused(refusal) => {
+        Err(refusal) => {
             write(out, b" refused");
-            number(out, refusal);
+            number(out, u32::from(refusal));
         }
-        Answer::Value(value) => number(out, value),
-        Answer::Waiting(mark, waiting) => {
+        Ok(Reply::Done) => write(out, b" done"),
+        Ok(Reply::Value(value)) => number(out, value),
+        Ok(Reply::Waiting(mark, waiting)) => {
             number(out, mark);
             word(out, waiting);
         }
-        Answer::Fates(received, read, cleared, overwritten, _, _, _) => show_fates(
+        Ok(Reply::Fates(received, read, cleared, overwritten, _, _, _)) => show_fates(
             out,
             received,
             read,
             cleared,
             overwritten,
         ),
-        Answer::Arrived(arrival) => show_arrival(out, arrival),
-        Answer::Entry(status, entry, stamp) => {
+        Ok(Reply::Arrived(arrival)) => show_arrival(out, arrival),
+        Ok(Reply::Entry(status, entry, stamp)) => {
             write(out, b" status");
             number(out, status);
             write(out, b", word");
@@ -113,7 +114,7 @@ fn show(out: &mut impl Write, answer: Answer) {
             write(out, b", stamp");
             number(out, stamp);
         }
-        Answer::Stepped(output) => show_output(out, output),
+        Ok(Reply::Stepped(output)) => show_output(out, output),
     }
 }
 
