@@ -16,7 +16,7 @@ use labels::REVERSED;
 fn reversed_byte(byte: u8) -> u8
     ensures { result ≡ reversed byte }
 {
-    REVERSED[byte as usize]
+    REVERSED[usize::from(byte)]
 }
 
 // The label, bits 1 to 8: written in octal it is the number that the documents list.
@@ -44,7 +44,7 @@ pub fn index(word: u32) -> u32
 pub fn count_of_ones(word: u32) -> u32
     ensures { result ≡ ones word }
 {
-    u32::count_ones(word)
+    word.count_ones()
 }
 
 // Whether odd parity finds the word in error.
@@ -79,17 +79,11 @@ pub fn as_sent(parity: u32, word: u32) -> u32
 pub fn error_mark(parity: u32, word: u32) -> u32
     ensures { result ≡ error_mark parity word }
 {
-    if parity == 0 {
-        return 0;
-    }
-    if is_in_error(word) {
-        return 1;
-    }
-    0
+    u32::from(parity != 0 && is_in_error(word))
 }
 
 // A null time between words, in bit times.
-#[derive(Drop)]
+#[derive(Clone, Copy)]
 pub struct Gap {
     pub time: u32,
 }
@@ -105,14 +99,8 @@ impl Gap {
     pub fn clamp(value: u32) -> Gap
         ensures { result.time ≡ clamped value }
     {
-        if value < Gap::LEAST {
-            return Gap { time: Gap::LEAST };
+        Gap {
+            time: value.clamp(Gap::LEAST, Gap::GREATEST),
         }
-        if Gap::GREATEST < value {
-            return Gap {
-                time: Gap::GREATEST,
-            };
-        }
-        Gap { time: value }
     }
 }
