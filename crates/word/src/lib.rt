@@ -55,6 +55,7 @@ pub fn is_in_error(word: u32) -> bool
 }
 
 // The word with D31 set or cleared so that the count of ones is odd.
+#[tactic(auto, unfolding(crate::specs::Parity::odd_parity))]
 pub fn with_odd_parity(word: u32) -> u32
     ensures { result ≡ odd_parity word }
 {
@@ -66,6 +67,7 @@ pub fn with_odd_parity(word: u32) -> u32
 }
 
 // The word as it goes out, by the channel's parity setting: 0 is off, any other number on.
+#[tactic(auto, unfolding(crate::specs::Parity::as_sent))]
 pub fn as_sent(parity: u32, word: u32) -> u32
     ensures { result ≡ as_sent parity word }
 {
@@ -76,6 +78,7 @@ pub fn as_sent(parity: u32, word: u32) -> u32
 }
 
 // The parity error of a received word, 1 or 0, by the same setting.
+#[tactic(auto, unfolding(crate::specs::Parity::error_mark))]
 pub fn error_mark(parity: u32, word: u32) -> u32
     ensures { result ≡ error_mark parity word }
 {
@@ -96,6 +99,7 @@ impl Gap {
     pub const GREATEST: u32 = 1_048_575;
 
     // The gap that a number from the message RAM stands for.
+    #[tactic(auto, unfolding(crate::specs::Gap::clamped))]
     pub fn clamp(value: u32) -> Gap
         ensures { result.time ≡ clamped value }
     {
