@@ -16,10 +16,7 @@ pub fn clear_receive(block: &mut [u32])
 {
     let level = block[RECEIVE_LEVEL];
     unlist(block, level);
-    block[RECEIVE_CLEARED] = std::num::wrapping_add_u32(
-        block[RECEIVE_CLEARED],
-        block[RECEIVE_LEVEL],
-    );
+    block[RECEIVE_CLEARED] = block[RECEIVE_CLEARED].wrapping_add(block[RECEIVE_LEVEL]);
     block[RECEIVE_LEVEL] = 0;
 }
 
@@ -28,10 +25,7 @@ pub fn clear_transmit(block: &mut [u32])
     requires { Whole block.old }
     ensures { block.new ≡ transmit_fifo_cleared block.old }
 {
-    block[TRANSMIT_CLEARED] = std::num::wrapping_add_u32(
-        block[TRANSMIT_CLEARED],
-        block[TRANSMIT_LEVEL],
-    );
+    block[TRANSMIT_CLEARED] = block[TRANSMIT_CLEARED].wrapping_add(block[TRANSMIT_LEVEL]);
     block[TRANSMIT_LEVEL] = 0;
 }
 
