@@ -17,12 +17,12 @@ fn shown(entry: Entry) -> Entry
 {
     Entry {
         status: entry.status % 4,
-        word: entry.word,
-        stamp: entry.stamp,
+        ..entry
     }
 }
 
 // Takes the oldest entry out of the receive FIFO.
+#[tactic(auto, using(fifos::proofs::Bounds::bounds))]
 pub fn read_fifo(block: &mut [u32]) -> Entry
     requires { (Usable block.old) × (0 < word block.old receive_level) }
     ensures entry { fields result ≡ read_answer block.old }
@@ -31,14 +31,15 @@ pub fn read_fifo(block: &mut [u32]) -> Entry
     let position = block[RECEIVE_POSITION];
     let level = block[RECEIVE_LEVEL];
     let count = block[RECEIVE_READ];
-    let oldest = ring::oldest3(block, RECEIVE_RING, position);
+    let oldest = ring::oldest(block, RECEIVE_RING, position);
     block[RECEIVE_LEVEL] = level - 1;
     block[RECEIVE_POSITION] = ring::next(position);
-    block[RECEIVE_READ] = std::num::wrapping_add_u32(count, 1);
-    shown(oldest)
+    block[RECEIVE_READ] = count.wrapping_add(1);
+    shown(Entry::from(oldest))
 }
 
 // Reads a mailbox, which is then no longer new.
+#[tactic(auto, unfolding(ring::specs::Ring::words))]
 pub fn read_mailbox(block: &mut [u32], index: u32) -> Entry
     requires { (Usable block.old) × (index < indexes) }
     ensures entry { fields result ≡ mailbox_answer index block.old }
