@@ -8,6 +8,7 @@ use block::layout::{
 };
 
 // Accepts a word behind those that the transmit FIFO holds.
+#[tactic(auto, using(crate::proofs::Bounds::position_fits))]
 pub fn write_fifo(block: &mut [u32], word: u32)
     requires { (Usable block.old) × (HasRoom block.old) }
     ensures { block.new ≡ fifo_written word block.old }
@@ -15,9 +16,9 @@ pub fn write_fifo(block: &mut [u32], word: u32)
     let level = block[TRANSMIT_LEVEL];
     let position = block[TRANSMIT_POSITION];
     let accepted = block[TRANSMIT_ACCEPTED];
-    ring::append1(block, TRANSMIT_RING, position, level, word);
+    ring::append(block, TRANSMIT_RING, position, level, [word]);
     block[TRANSMIT_LEVEL] = level + 1;
-    block[TRANSMIT_ACCEPTED] = std::num::wrapping_add_u32(accepted, 1);
+    block[TRANSMIT_ACCEPTED] = accepted.wrapping_add(1);
 }
 
 // Lets an async word wait.
