@@ -20,6 +20,7 @@ pub struct Stepped {
 }
 
 // Sends the oldest word of the FIFO with the gap of the rate behind it; quiet if there is none.
+#[tactic(auto, using(transmit_controls::proofs::Bounds::position_fits), unfolding(crate::specs::Step::send_output, crate::specs::Step::send_after))]
 fn send(block: &mut [u32]) -> Output
     requires { Usable block.old }
     ensures output { result ≡ send_output block.old }
@@ -31,10 +32,10 @@ fn send(block: &mut [u32]) -> Output
     }
     let position = block[TRANSMIT_POSITION];
     let next = ring::next(position);
-    let sent = std::num::wrapping_add_u32(block[TRANSMIT_SENT], 1);
+    let sent = block[TRANSMIT_SENT].wrapping_add(1);
     let parity = block[PARITY];
     let rate = block[RATE];
-    let word = ring::oldest1(block, TRANSMIT_RING, position);
+    let [word] = ring::oldest::<1>(block, TRANSMIT_RING, position);
     let as_sent = word::as_sent(parity, word);
     block[TRANSMIT_LEVEL] = level - 1;
     block[TRANSMIT_POSITION] = next;
@@ -43,6 +44,7 @@ fn send(block: &mut [u32]) -> Output
 }
 
 // A step in immediate mode: sends unless paused.
+#[tactic(auto, unfolding(crate::specs::Step::immediate_output, crate::specs::Step::immediate_after))]
 fn immediate(block: &mut [u32]) -> Output
     requires { Usable block.old }
     ensures output { result ≡ immediate_output block.old }
@@ -55,6 +57,7 @@ fn immediate(block: &mut [u32]) -> Output
 }
 
 // A step in triggered mode: sends while running, and is idle once the FIFO is empty.
+#[tactic(auto, unfolding(crate::specs::Step::send_output, crate::specs::Step::triggered_output, crate::specs::Step::triggered_after))]
 fn triggered(block: &mut [u32]) -> Output
     requires { Usable block.old }
     ensures output { result ≡ triggered_output block.old }
@@ -110,6 +113,7 @@ fn scheduled(block: &mut [u32]) -> Stepped
 }
 
 // One step: quiet with the transmitter off, else by the mode.
+#[tactic(auto, unfolding(crate::specs::Step::step_output, crate::specs::Step::step_signal, crate::specs::Step::step_after))]
 pub fn step(block: &mut [u32]) -> Stepped
     requires { Usable block.old }
     ensures output { result.output ≡ step_output block.old }
@@ -122,17 +126,15 @@ pub fn step(block: &mut [u32]) -> Stepped
             signal: 0,
         };
     }
-    if block[TRANSMIT_MODE] == IMMEDIATE {
-        return Stepped {
+    match block[TRANSMIT_MODE] {
+        IMMEDIATE => Stepped {
             output: immediate(block),
             signal: 0,
-        };
-    }
-    if block[TRANSMIT_MODE] == TRIGGERED {
-        return Stepped {
+        },
+        TRIGGERED => Stepped {
             output: triggered(block),
             signal: 0,
-        };
+        },
+        _ => scheduled(block),
     }
-    scheduled(block)
 }
