@@ -18,6 +18,7 @@ use block::layout::{
     RECEIVE_POSITION, RECEIVE_RING, STAMPS,
 };
 use block::modes::FIFO_MODE;
+use fifos::entries::RECEIVE;
 use fifos::mailboxes::{NEW, unlist};
 use ring::Entry;
 use status::rule::PARITY_ERROR;
@@ -78,18 +79,12 @@ fn mail(block: &mut [u32], mark: u32, stamp: u32, word: u32)
 }
 
 // Accepts an entry behind those held.
-#[tactic(auto, using(fifos::proofs::Bounds::bounds))]
+#[tactic(auto, using(fifos::proofs::Bounds::receive_fits))]
 fn append(block: &mut [u32], entry: Entry)
     requires { (Usable block.old) × (word block.old receive_level < slots) }
     ensures { block.new ≡ entry_appended receive_offsets block.old (fields entry) }
 {
-    let position = block[RECEIVE_POSITION];
-    let level = block[RECEIVE_LEVEL];
-    let accepted = block[RECEIVE_ACCEPTED];
-    let words = <[u32; 3]>::from(entry);
-    ring::append(block, RECEIVE_RING, position, level, words);
-    block[RECEIVE_LEVEL] = level + 1;
-    block[RECEIVE_ACCEPTED] = accepted.wrapping_add(1);
+    fifos::entries::append(block, RECEIVE, <[u32; 3]>::from(entry));
 }
 
 // Accepts an entry over the oldest, and counts that one as overwritten.

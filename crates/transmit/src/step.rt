@@ -5,10 +5,10 @@ ghost use Rattle.transmit.specs.Step.{send_output, send_after, immediate_output,
 
 use block::layout::{
     ADDRESS, ASYNC_MARK, ASYNC_WORD, MESSAGE_MARK, MESSAGE_RAM, PARITY, RATE, SCHEDULE_RAM, STATE,
-    TRANSMIT_LEVEL, TRANSMIT_MODE, TRANSMIT_POSITION, TRANSMIT_RING, TRANSMIT_SENT, TRANSMITTER,
-    WORDS,
+    TRANSMIT_LEVEL, TRANSMIT_MODE, TRANSMITTER, WORDS,
 };
 use block::modes::{IMMEDIATE, TRIGGERED};
+use fifos::entries::{TRANSMIT, take};
 use schedule::{IDLE, Outcome, Output, PAUSED, Place, RUNNING};
 use status::rule::INTERRUPT;
 
@@ -20,26 +20,19 @@ pub struct Stepped {
 }
 
 // Sends the oldest word of the FIFO with the gap of the rate behind it; quiet if there is none.
-#[tactic(auto, using(transmit_controls::proofs::Bounds::position_fits), unfolding(crate::specs::Step::send_output, crate::specs::Step::send_after))]
+#[tactic(auto, using(fifos::proofs::Bounds::transmit_fits), unfolding(crate::specs::Step::send_output, crate::specs::Step::send_after))]
 fn send(block: &mut [u32]) -> Output
     requires { Usable block.old }
     ensures output { result ≡ send_output block.old }
     ensures after { block.new ≡ send_after block.old }
 {
-    let level = block[TRANSMIT_LEVEL];
-    if level == 0 {
+    if block[TRANSMIT_LEVEL] == 0 {
         return Output::Quiet;
     }
-    let position = block[TRANSMIT_POSITION];
-    let next = ring::next(position);
-    let sent = block[TRANSMIT_SENT].wrapping_add(1);
     let parity = block[PARITY];
     let rate = block[RATE];
-    let [word] = ring::oldest::<1>(block, TRANSMIT_RING, position);
+    let [word] = take::<1>(block, TRANSMIT);
     let as_sent = word::as_sent(parity, word);
-    block[TRANSMIT_LEVEL] = level - 1;
-    block[TRANSMIT_POSITION] = next;
-    block[TRANSMIT_SENT] = sent;
     Output::FifoWord(as_sent, rate)
 }
 
