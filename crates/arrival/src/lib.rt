@@ -24,6 +24,7 @@ pub enum Arrival {
 }
 
 // Whether the match set filters a word out.
+#[tactic(auto, unfolding(crate::specs::Arrival::filtered))]
 fn is_filtered(block: &[u32], word: u32) -> bool
     requires { Usable block.now }
     ensures { result ≡ filtered word block.now }
@@ -35,6 +36,7 @@ fn is_filtered(block: &[u32], word: u32) -> bool
 }
 
 // Whether a word's index is not to be listed again: in mailbox mode its mailbox still has the new mark.
+#[tactic(auto, unfolding(crate::specs::Arrival::listed))]
 fn is_listed(block: &[u32], word: u32) -> bool
     requires { Usable block.now }
     ensures { result ≡ listed word block.now }
@@ -46,6 +48,7 @@ fn is_listed(block: &[u32], word: u32) -> bool
 }
 
 // What becomes of a word, decided before anything is stored.
+#[tactic(auto, unfolding(crate::specs::Arrival::arrival))]
 pub fn decide(block: &[u32], word: u32) -> Arrival
     requires { Usable block.now }
     ensures { result ≡ arrival word block.now }

@@ -3,11 +3,9 @@ ghost use Rattle.std.specs.Prelude.{◌≡◌};
 ghost use Rattle.block.specs.Layout.{Whole};
 ghost use Rattle.fifos.specs.Clearing.{receive_fifo_cleared, transmit_fifo_cleared, stopped, unmarked, forgotten};
 
+use crate::entries::{RECEIVE, TRANSMIT, clear};
 use crate::mailboxes::unlist;
-use block::layout::{
-    ADDRESS, ASYNC_MARK, MESSAGE_MARK, RECEIVE_CLEARED, RECEIVE_LEVEL, STATE, TRANSMIT_CLEARED,
-    TRANSMIT_LEVEL,
-};
+use block::layout::{ADDRESS, ASYNC_MARK, MESSAGE_MARK, RECEIVE_LEVEL, STATE};
 
 // Clears the receive FIFO and counts what it held; in mailbox mode the mailboxes of its indices lose their marks first.
 pub fn clear_receive(block: &mut [u32])
@@ -16,11 +14,7 @@ pub fn clear_receive(block: &mut [u32])
 {
     let level = block[RECEIVE_LEVEL];
     unlist(block, level);
-    block[RECEIVE_CLEARED] = std::num::wrapping_add_u32(
-        block[RECEIVE_CLEARED],
-        block[RECEIVE_LEVEL],
-    );
-    block[RECEIVE_LEVEL] = 0;
+    clear(block, RECEIVE);
 }
 
 // Clears the transmit FIFO and counts what it held.
@@ -28,11 +22,7 @@ pub fn clear_transmit(block: &mut [u32])
     requires { Whole block.old }
     ensures { block.new ≡ transmit_fifo_cleared block.old }
 {
-    block[TRANSMIT_CLEARED] = std::num::wrapping_add_u32(
-        block[TRANSMIT_CLEARED],
-        block[TRANSMIT_LEVEL],
-    );
-    block[TRANSMIT_LEVEL] = 0;
+    clear(block, TRANSMIT);
 }
 
 // Makes the transmitter idle at command 0.

@@ -2,4 +2,5 @@
 #![tactic(auto)]
 
 pub mod clearing;
+pub mod entries;
 pub mod mailboxes;

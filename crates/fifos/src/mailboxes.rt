@@ -24,7 +24,7 @@ pub fn take_mark(block: &mut [u32], index: u32)
 fn slot_of(position: u32, entry: u32) -> usize
     ensures { result ≡ (position + entry) % slots }
 {
-    (((position as u64) + (entry as u64)) % (SLOTS as u64)) as usize
+    ((u64::from(position) + u64::from(entry)) % u64::from(SLOTS)) as usize
 }
 
 // The index that an entry of the list names, the oldest being entry 0: the entry's word may hold anything.
@@ -37,6 +37,7 @@ fn listed_index(block: &[u32], entry: u32) -> u32
 }
 
 // In mailbox mode the mailboxes of the oldest `entries` entries lose their marks, oldest first.
+#[tactic(auto, unfolding(crate::specs::Mailboxes::unlisted, crate::specs::Mailboxes::marks_taken))]
 pub fn unlist(block: &mut [u32], entries: u32)
     requires { Whole block.old }
     ensures { block.new ≡ unlisted entries block.old }
@@ -44,10 +45,8 @@ pub fn unlist(block: &mut [u32], entries: u32)
     if block[RECEIVE_MODE] == FIFO_MODE {
         return;
     }
-    let mut entry = 0;
-    while entry < entries {
+    for entry in 0..entries {
         let index = listed_index(block, entry);
         take_mark(block, index);
-        entry += 1;
     }
 }

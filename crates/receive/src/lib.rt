@@ -18,6 +18,7 @@ use block::layout::{
     RECEIVE_POSITION, RECEIVE_RING, STAMPS,
 };
 use block::modes::FIFO_MODE;
+use fifos::entries::RECEIVE;
 use fifos::mailboxes::{NEW, unlist};
 use ring::Entry;
 use status::rule::PARITY_ERROR;
@@ -30,6 +31,7 @@ pub struct Arrived {
 }
 
 // The stamp that is stored, by the channel's stamps setting.
+#[tactic(auto, unfolding(crate::specs::Entries::stamp_of))]
 fn stamp_of(stamps: u32, stamp: u32) -> u32
     ensures { result ≡ stamp_of stamps stamp }
 {
@@ -40,6 +42,7 @@ fn stamp_of(stamps: u32, stamp: u32) -> u32
 }
 
 // The entry of a word: in mailbox mode the receive FIFO is a list of indices.
+#[tactic(auto, unfolding(crate::specs::Entries::entry_of))]
 fn entry_of(block: &[u32], stamp: u32, word: u32) -> Entry
     requires { Usable block.now }
     ensures { fields result ≡ entry_of stamp word block.now }
@@ -59,6 +62,7 @@ fn entry_of(block: &[u32], stamp: u32, word: u32) -> Entry
 }
 
 // In mailbox mode the mailbox of the word's index takes it, with the new mark or with 0 in its place.
+#[tactic(auto, using(crate::proofs::Stores::mark_fits), unfolding(crate::specs::Entries::mailed))]
 fn mail(block: &mut [u32], mark: u32, stamp: u32, word: u32)
     requires { (Usable block.old) × (mark ≤ new_mark) }
     ensures { block.new ≡ mailed mark stamp word block.old }
@@ -75,19 +79,16 @@ fn mail(block: &mut [u32], mark: u32, stamp: u32, word: u32)
 }
 
 // Accepts an entry behind those held.
+#[tactic(auto, using(fifos::proofs::Bounds::receive_fits))]
 fn append(block: &mut [u32], entry: Entry)
     requires { (Usable block.old) × (word block.old receive_level < slots) }
     ensures { block.new ≡ entry_appended receive_offsets block.old (fields entry) }
 {
-    let position = block[RECEIVE_POSITION];
-    let level = block[RECEIVE_LEVEL];
-    let accepted = block[RECEIVE_ACCEPTED];
-    ring::append3(block, RECEIVE_RING, position, level, entry);
-    block[RECEIVE_LEVEL] = level + 1;
-    block[RECEIVE_ACCEPTED] = std::num::wrapping_add_u32(accepted, 1);
+    fifos::entries::append(block, RECEIVE, <[u32; 3]>::from(entry));
 }
 
 // Accepts an entry over the oldest, and counts that one as overwritten.
+#[tactic(auto, using(fifos::proofs::Bounds::bounds))]
 fn overwrite(block: &mut [u32], entry: Entry)
     requires { Usable block.old }
     ensures { block.new ≡ overwriting block.old (fields entry) }
@@ -96,13 +97,15 @@ fn overwrite(block: &mut [u32], entry: Entry)
     let level = block[RECEIVE_LEVEL];
     let accepted = block[RECEIVE_ACCEPTED];
     let overwritten = block[RECEIVE_OVERWRITTEN];
-    ring::append3(block, RECEIVE_RING, position, level, entry);
+    let words = <[u32; 3]>::from(entry);
+    ring::append(block, RECEIVE_RING, position, level, words);
     block[RECEIVE_POSITION] = ring::next(position);
-    block[RECEIVE_ACCEPTED] = std::num::wrapping_add_u32(accepted, 1);
-    block[RECEIVE_OVERWRITTEN] = std::num::wrapping_add_u32(overwritten, 1);
+    block[RECEIVE_ACCEPTED] = accepted.wrapping_add(1);
+    block[RECEIVE_OVERWRITTEN] = overwritten.wrapping_add(1);
 }
 
 // Stores what the decision asks for.
+#[tactic(auto, using(crate::proofs::Stores::mail_usable, crate::proofs::Stores::mail_room, crate::proofs::Stores::unlist_left), unfolding(crate::specs::Arrived::stored))]
 fn store(block: &mut [u32], decision: Arrival, stamp: u32, word: u32)
     requires { (Usable block.old) × (decision ≡ arrival word block.old) }
     ensures { block.new ≡ stored decision stamp word block.old }
@@ -126,6 +129,7 @@ fn store(block: &mut [u32], decision: Arrival, stamp: u32, word: u32)
 }
 
 // The conditions that an arrival signals: a parity error of a word that entered the FIFO or a mailbox.
+#[tactic(auto, using(crate::proofs::Stores::mark_fits), unfolding(crate::specs::Arrived::signalled))]
 fn signal_of(block: &[u32], decision: Arrival, word: u32) -> u32
     requires { Usable block.now }
     ensures { result ≡ signalled decision word block.now }

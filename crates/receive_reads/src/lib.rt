@@ -7,7 +7,8 @@ ghost use Rattle.block.specs.Layout.{word, receive_level, indexes};
 ghost use Rattle.block.specs.Ranges.{Usable};
 ghost use Rattle.receive_reads.specs.Reading.{shown, read_answer, read_after, mailbox_answer, mailbox_after};
 
-use block::layout::{MAILBOXES, RECEIVE_LEVEL, RECEIVE_POSITION, RECEIVE_READ, RECEIVE_RING};
+use block::layout::MAILBOXES;
+use fifos::entries::{RECEIVE, take};
 use fifos::mailboxes::take_mark;
 use ring::Entry;
 
@@ -17,28 +18,23 @@ fn shown(entry: Entry) -> Entry
 {
     Entry {
         status: entry.status % 4,
-        word: entry.word,
-        stamp: entry.stamp,
+        ..entry
     }
 }
 
 // Takes the oldest entry out of the receive FIFO.
+#[tactic(auto, using(fifos::proofs::Bounds::receive_fits))]
 pub fn read_fifo(block: &mut [u32]) -> Entry
     requires { (Usable block.old) × (0 < word block.old receive_level) }
     ensures entry { fields result ≡ read_answer block.old }
     ensures after { block.new ≡ read_after block.old }
 {
-    let position = block[RECEIVE_POSITION];
-    let level = block[RECEIVE_LEVEL];
-    let count = block[RECEIVE_READ];
-    let oldest = ring::oldest3(block, RECEIVE_RING, position);
-    block[RECEIVE_LEVEL] = level - 1;
-    block[RECEIVE_POSITION] = ring::next(position);
-    block[RECEIVE_READ] = std::num::wrapping_add_u32(count, 1);
-    shown(oldest)
+    let oldest = take(block, RECEIVE);
+    shown(Entry::from(oldest))
 }
 
 // Reads a mailbox, which is then no longer new.
+#[tactic(auto, unfolding(ring::specs::Ring::words))]
 pub fn read_mailbox(block: &mut [u32], index: u32) -> Entry
     requires { (Usable block.old) × (index < indexes) }
     ensures entry { fields result ≡ mailbox_answer index block.old }

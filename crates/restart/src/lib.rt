@@ -20,6 +20,7 @@ fn clear_fifos(block: &mut [u32])
 }
 
 // Runs the initiated test with its result: 0 passed, 1 failed.
+#[tactic(auto, unfolding(crate::specs::Tests::tested))]
 pub fn initiated_test(block: &mut [u32], res: u32)
     requires { Whole block.old }
     ensures { block.new ≡ tested res block.old }
@@ -35,6 +36,7 @@ pub fn initiated_test(block: &mut [u32], res: u32)
 }
 
 // The channel's part of a module reset. The rule is not run.
+#[tactic(auto, unfolding(crate::specs::Tests::block_reset))]
 pub fn reset(block: &mut [u32])
     requires { Whole block.old }
     ensures { block.new ≡ block_reset block.old }

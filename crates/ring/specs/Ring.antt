@@ -45,8 +45,11 @@ slots = 255
 abbrev pub last_slot : ℕ
 last_slot = slots - 1
 
+abbrev pub of_width : ℕ → ℕ → Ring
+of_width n at = record { at = at; width = n; slots = slots }
+
 abbrev pub triples : ℕ → Ring
-triples at = record { at = at; width = 3; slots = slots }
+triples at = of_width 3 at
 
 abbrev pub singles : ℕ → Ring
-singles at = record { at = at; width = 1; slots = slots }
+singles at = of_width 1 at

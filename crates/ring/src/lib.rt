@@ -3,8 +3,8 @@
 // in the block: the caller passes them and stores them.
 #![tactic(auto)]
 
-ghost use Rattle.std.specs.Prelude.{◌≡◌, [], ◌∷◌, ◌≤◌, ◌<◌, length};
-ghost use Rattle.ring.specs.Ring.{slots, appended, oldest, next, end, triples, singles};
+ghost use Rattle.std.specs.Prelude.{◌≡◌, ◌≤◌, ◌<◌, length};
+ghost use Rattle.ring.specs.Ring.{slots, appended, oldest, next, end, of_width};
 ghost use Rattle.ring.specs.Entry.{fields};
 
 // The slots of a ring: a FIFO holds at most so many entries.
@@ -20,44 +20,46 @@ pub struct Entry {
     pub stamp: u32,
 }
 
-// Stores an entry of three words in the slot behind the `level` entries from slot `pos` on. Where the ring holds as many as it may, the
-// caller moves the position on as well, and the oldest is overwritten.
-pub fn append3(block: &mut [u32], at: usize, pos: u32, level: u32, entry: Entry)
-    requires { (pos < slots) × (level ≤ slots) × (end (triples at) ≤ length block.old) }
-    ensures { block.new ≡ appended (triples at) block.old pos level (fields entry) }
-{
-    let s = at + 3 * (((pos + level) % SLOTS) as usize);
-    block[s] = entry.status;
-    block[s + 1] = entry.word;
-    block[s + 2] = entry.stamp;
-}
+impl From<Entry> for [u32; 3] {
+    ghost from_gives = { λ entry words. words ≡ fields entry };
 
-// The oldest entry of three words.
-pub fn oldest3(block: &[u32], at: usize, pos: u32) -> Entry
-    requires { (pos < slots) × (end (triples at) ≤ length block.now) }
-    ensures { fields result ≡ oldest (triples at) block.now pos }
-{
-    let s = at + 3 * (pos as usize);
-    Entry {
-        status: block[s],
-        word: block[s + 1],
-        stamp: block[s + 2],
+    fn from(entry: Entry) -> [u32; 3] {
+        [entry.status, entry.word, entry.stamp]
     }
 }
 
-// The same for entries of one word.
-pub fn append1(block: &mut [u32], at: usize, pos: u32, level: u32, word: u32)
-    requires { (pos < slots) × (level ≤ slots) × (end (singles at) ≤ length block.old) }
-    ensures { block.new ≡ appended (singles at) block.old pos level (word ∷ []) }
-{
-    block[at + (((pos + level) % SLOTS) as usize)] = word;
+impl From<[u32; 3]> for Entry {
+    ghost from_gives = { λ words entry. fields entry ≡ words };
+
+    fn from(words: [u32; 3]) -> Entry {
+        let [status, word, stamp] = words;
+        Entry {
+            status,
+            word,
+            stamp,
+        }
+    }
 }
 
-pub fn oldest1(block: &[u32], at: usize, pos: u32) -> u32
-    requires { (pos < slots) × (end (singles at) ≤ length block.now) }
-    ensures { result ∷ [] ≡ oldest (singles at) block.now pos }
+// Stores an entry of N words in the slot behind the `level` entries from slot `pos` on. Where the ring holds as many as it may, the
+// caller moves the position on as well, and the oldest is overwritten.
+pub fn append<const N: usize>(block: &mut [u32], at: usize, pos: u32, level: u32, entry: [u32; N])
+    requires { (pos < slots) × (level ≤ slots) × (end (of_width N at) ≤ length block.old) }
+    ensures { block.new ≡ appended (of_width N at) block.old pos level entry.entry }
 {
-    block[at + (pos as usize)]
+    let s = at + N * (((pos + level) % SLOTS) as usize);
+    block[s..s + N].copy_from_slice(&entry);
+}
+
+// The oldest entry, of N words.
+pub fn oldest<const N: usize>(block: &[u32], at: usize, pos: u32) -> [u32; N]
+    requires { (pos < slots) × (end (of_width N at) ≤ length block.now) }
+    ensures { result ≡ oldest (of_width N at) block.now pos }
+{
+    let s = at + N * (pos as usize);
+    let mut entry = [0; N];
+    entry.copy_from_slice(&block[s..s + N]);
+    entry
 }
 
 // The position once the oldest entry is taken out or overwritten.

@@ -88,6 +88,7 @@ pub fn message_address(command: u32) -> u32
 }
 
 // The output in four numbers: its form and what belongs to it.
+#[tactic(auto, unfolding(crate::specs::Output::values))]
 pub fn values(output: Output) -> [u32; 4]
     ensures { result ≡ values output }
 {
@@ -109,13 +110,12 @@ fn at(place: Place, state: u32, address: u32) -> Place
     Place {
         state,
         address,
-        waiting: place.waiting,
-        word: place.word,
-        mark: place.mark,
+        ..place
     }
 }
 
 // On to the next command in the given state; after the last command idle at command 0.
+#[tactic(auto, unfolding(crate::specs::Schedule::onward))]
 fn onward(place: Place, state: u32) -> Place
     ensures { result ≡ onward place state }
 {
@@ -130,11 +130,8 @@ fn async_sent(place: Place) -> Place
     ensures { result ≡ async_sent place }
 {
     Place {
-        state: place.state,
-        address: place.address,
         waiting: 0,
-        word: place.word,
-        mark: place.mark,
+        ..place
     }
 }
 
@@ -142,13 +139,7 @@ fn async_sent(place: Place) -> Place
 fn marked(place: Place, mark: u32) -> Place
     ensures { result ≡ marked place mark }
 {
-    Place {
-        state: place.state,
-        address: place.address,
-        waiting: place.waiting,
-        word: place.word,
-        mark,
-    }
+    Place { mark, ..place }
 }
 
 // An outcome that signals nothing.
@@ -163,6 +154,7 @@ fn gives(output: Output, place: Place) -> Outcome
 }
 
 // A message: the least gap goes before it where the last thing sent was a message too.
+#[tactic(auto, unfolding(crate::specs::Schedule::message_step))]
 fn message_step(place: Place, word: u32) -> Outcome
     ensures { result ≡ message_step place word }
 {
@@ -174,6 +166,7 @@ fn message_step(place: Place, word: u32) -> Outcome
 }
 
 // A gap of `gap` bit times: a waiting async word goes out in one that is long enough.
+#[tactic(auto, unfolding(crate::specs::Schedule::gap_step))]
 fn gap_step(place: Place, parity: u32, gap: u32) -> Outcome
     ensures { result ≡ gap_step place parity gap }
 {
@@ -206,40 +199,31 @@ fn jump_step(place: Place, target: u32) -> Outcome
 }
 
 // One command of a running schedule.
+#[tactic(auto, unfolding(crate::specs::Schedule::command_step))]
 fn command_step(place: Place, parity: u32, command: u32, value: u32) -> Outcome
     ensures { result ≡ command_step place parity command value }
 {
-    let code = command / 4096 % 16;
-    if code == STOP {
-        return gives(Output::Quiet, at(place, IDLE, 0));
-    }
-    if code == MESSAGE {
-        return message_step(place, word::as_sent(parity, value));
-    }
-    if code == GAP {
-        return gap_step(marked(place, 0), parity, Gap::clamp(value).time);
-    }
-    if code == FIXED_GAP {
-        let after = onward(marked(place, 0), RUNNING);
-        return gives(Output::Null(Gap::clamp(value).time), after);
-    }
-    if code == PAUSE {
-        return gives(Output::Quiet, onward(place, PAUSED));
-    }
-    if code == INTERRUPT {
-        return Outcome {
+    match command / 4096 % 16 {
+        STOP => gives(Output::Quiet, at(place, IDLE, 0)),
+        MESSAGE => message_step(place, word::as_sent(parity, value)),
+        GAP => gap_step(marked(place, 0), parity, Gap::clamp(value).time),
+        FIXED_GAP => {
+            let after = onward(marked(place, 0), RUNNING);
+            gives(Output::Null(Gap::clamp(value).time), after)
+        }
+        PAUSE => gives(Output::Quiet, onward(place, PAUSED)),
+        INTERRUPT => Outcome {
             output: Output::Quiet,
             place: onward(place, RUNNING),
             signal: 1,
-        };
+        },
+        JUMP => jump_step(place, command % COMMANDS),
+        _ => reserved_step(place),
     }
-    if code == JUMP {
-        return jump_step(place, command % COMMANDS);
-    }
-    reserved_step(place)
 }
 
 // One step: `command` is the schedule RAM's word at the place's address, `value` the message RAM's word at the command's `message_address`.
+#[tactic(auto, unfolding(crate::specs::Schedule::stepped))]
 pub fn step(place: Place, parity: u32, command: u32, value: u32) -> Outcome
     ensures { result ≡ stepped place parity command value }
 {
@@ -250,6 +234,7 @@ pub fn step(place: Place, parity: u32, command: u32, value: u32) -> Outcome
 }
 
 // The same over the two RAMs: the command at the place's address, and the message RAM's word that it names.
+#[tactic(auto, unfolding(crate::specs::Schedule::step_at))]
 pub fn step_at(schedule: &[u32], ram: &[u32], place: Place, parity: u32) -> Outcome
     requires { (place.address < length schedule.now) × (messages ≤ length ram.now) }
     ensures { result ≡ step_at schedule.now ram.now place parity }

@@ -61,21 +61,15 @@ fn write_transmitter(block: &mut [u32], value: u32)
 }
 
 // Writes a setting, with what the write brings with it.
+#[tactic(auto, unfolding(crate::specs::Settings::written))]
 pub fn write(block: &mut [u32], setting: usize, value: u32)
     requires { (Whole block.old) × (setting < settings) }
     ensures { block.new ≡ written setting value block.old }
 {
-    if setting == RECEIVE_MODE {
-        write_receive_mode(block, value);
-        return;
+    match setting {
+        RECEIVE_MODE => write_receive_mode(block, value),
+        TRANSMIT_MODE => write_transmit_mode(block, value),
+        TRANSMITTER => write_transmitter(block, value),
+        _ => block[setting] = value,
     }
-    if setting == TRANSMIT_MODE {
-        write_transmit_mode(block, value);
-        return;
-    }
-    if setting == TRANSMITTER {
-        write_transmitter(block, value);
-        return;
-    }
-    block[setting] = value;
 }

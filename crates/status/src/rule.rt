@@ -27,6 +27,7 @@ fn flag(test: bool, weight: u32) -> u32
 }
 
 // The conditions 0 to 3 that hold of a block.
+#[tactic(auto, unfolding(crate::specs::Status::conditions))]
 pub fn conditions(block: &[u32]) -> u32
     requires { Whole block.now }
     ensures value { result ≡ conditions block.now }
@@ -58,6 +59,7 @@ pub fn holding(fault: u32, block: &[u32]) -> u32
 }
 
 // The latch bit of one condition after a call: its weight or 0.
+#[tactic(auto, unfolding(crate::specs::Status::latch_bit))]
 fn latch_bit(weight: u32, latch: u32, level: u32, before: u32, holds: u32) -> u32
     requires { 0 < weight }
     ensures value { result ≡ latch_bit weight latch level before holds }
@@ -79,6 +81,7 @@ fn latch_bit(weight: u32, latch: u32, level: u32, before: u32, holds: u32) -> u3
 }
 
 // The latch after a call.
+#[tactic(auto, unfolding(crate::specs::Status::latched))]
 fn latched(latch: u32, level: u32, before: u32, holds: u32) -> u32
     ensures { result ≡ latched latch level before holds }
 {
@@ -100,6 +103,7 @@ pub fn rule(block: &mut [u32], before: u32, holds: u32)
 }
 
 // A latch bit whose bit of a mask is `choice`: its weight or 0.
+#[tactic(auto, unfolding(crate::specs::Status::chosen_bit))]
 fn chosen_bit(weight: u32, latch: u32, mask: u32, choice: u32) -> u32
     requires { 0 < weight }
     ensures value { result ≡ chosen_bit weight latch mask choice }
@@ -115,6 +119,7 @@ fn chosen_bit(weight: u32, latch: u32, mask: u32, choice: u32) -> u32
 }
 
 // The latch bits whose bit of a mask is `choice`.
+#[tactic(auto, unfolding(crate::specs::Status::chosen))]
 fn chosen(latch: u32, mask: u32, choice: u32) -> u32
     ensures { result ≡ chosen latch mask choice }
 {
@@ -136,12 +141,10 @@ pub fn clear_latch(block: &mut [u32], mask: u32)
 }
 
 // Whether an interrupt is pending, that is a latched bit is enabled: 1 or 0.
+#[tactic(auto, unfolding(crate::specs::Status::pending))]
 pub fn pending(block: &[u32]) -> u32
     requires { Whole block.now }
     ensures { result ≡ pending block.now }
 {
-    if chosen(block[LATCH], block[ENABLE], 1) == 0 {
-        return 0;
-    }
-    1
+    u32::from(chosen(block[LATCH], block[ENABLE], 1) != 0)
 }

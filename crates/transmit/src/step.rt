@@ -5,10 +5,10 @@ ghost use Rattle.transmit.specs.Step.{send_output, send_after, immediate_output,
 
 use block::layout::{
     ADDRESS, ASYNC_MARK, ASYNC_WORD, MESSAGE_MARK, MESSAGE_RAM, PARITY, RATE, SCHEDULE_RAM, STATE,
-    TRANSMIT_LEVEL, TRANSMIT_MODE, TRANSMIT_POSITION, TRANSMIT_RING, TRANSMIT_SENT, TRANSMITTER,
-    WORDS,
+    TRANSMIT_LEVEL, TRANSMIT_MODE, TRANSMITTER, WORDS,
 };
 use block::modes::{IMMEDIATE, TRIGGERED};
+use fifos::entries::{TRANSMIT, take};
 use schedule::{IDLE, Outcome, Output, PAUSED, Place, RUNNING};
 use status::rule::INTERRUPT;
 
@@ -20,29 +20,24 @@ pub struct Stepped {
 }
 
 // Sends the oldest word of the FIFO with the gap of the rate behind it; quiet if there is none.
+#[tactic(auto, using(fifos::proofs::Bounds::transmit_fits), unfolding(crate::specs::Step::send_output, crate::specs::Step::send_after))]
 fn send(block: &mut [u32]) -> Output
     requires { Usable block.old }
     ensures output { result ≡ send_output block.old }
     ensures after { block.new ≡ send_after block.old }
 {
-    let level = block[TRANSMIT_LEVEL];
-    if level == 0 {
+    if block[TRANSMIT_LEVEL] == 0 {
         return Output::Quiet;
     }
-    let position = block[TRANSMIT_POSITION];
-    let next = ring::next(position);
-    let sent = std::num::wrapping_add_u32(block[TRANSMIT_SENT], 1);
     let parity = block[PARITY];
     let rate = block[RATE];
-    let word = ring::oldest1(block, TRANSMIT_RING, position);
+    let [word] = take::<1>(block, TRANSMIT);
     let as_sent = word::as_sent(parity, word);
-    block[TRANSMIT_LEVEL] = level - 1;
-    block[TRANSMIT_POSITION] = next;
-    block[TRANSMIT_SENT] = sent;
     Output::FifoWord(as_sent, rate)
 }
 
 // A step in immediate mode: sends unless paused.
+#[tactic(auto, unfolding(crate::specs::Step::immediate_output, crate::specs::Step::immediate_after))]
 fn immediate(block: &mut [u32]) -> Output
     requires { Usable block.old }
     ensures output { result ≡ immediate_output block.old }
@@ -55,6 +50,7 @@ fn immediate(block: &mut [u32]) -> Output
 }
 
 // A step in triggered mode: sends while running, and is idle once the FIFO is empty.
+#[tactic(auto, unfolding(crate::specs::Step::send_output, crate::specs::Step::triggered_output, crate::specs::Step::triggered_after))]
 fn triggered(block: &mut [u32]) -> Output
     requires { Usable block.old }
     ensures output { result ≡ triggered_output block.old }
@@ -110,6 +106,7 @@ fn scheduled(block: &mut [u32]) -> Stepped
 }
 
 // One step: quiet with the transmitter off, else by the mode.
+#[tactic(auto, unfolding(crate::specs::Step::step_output, crate::specs::Step::step_signal, crate::specs::Step::step_after))]
 pub fn step(block: &mut [u32]) -> Stepped
     requires { Usable block.old }
     ensures output { result.output ≡ step_output block.old }
@@ -122,17 +119,15 @@ pub fn step(block: &mut [u32]) -> Stepped
             signal: 0,
         };
     }
-    if block[TRANSMIT_MODE] == IMMEDIATE {
-        return Stepped {
+    match block[TRANSMIT_MODE] {
+        IMMEDIATE => Stepped {
             output: immediate(block),
             signal: 0,
-        };
-    }
-    if block[TRANSMIT_MODE] == TRIGGERED {
-        return Stepped {
+        },
+        TRIGGERED => Stepped {
             output: triggered(block),
             signal: 0,
-        };
+        },
+        _ => scheduled(block),
     }
-    scheduled(block)
 }

@@ -16,6 +16,7 @@ pub fn trigger(block: &mut [u32])
 }
 
 // Pauses a running transmitter; in immediate mode an idle one too.
+#[tactic(auto, unfolding(crate::specs::States::after_pause))]
 pub fn pause(block: &mut [u32])
     requires { Usable block.old }
     ensures { block.new ≡ after_pause block.old }

@@ -3,21 +3,16 @@ ghost use Rattle.std.specs.Prelude.{◌≡◌};
 ghost use Rattle.block.specs.Ranges.{Usable};
 ghost use Rattle.transmit_controls.specs.Writes.{HasRoom, fifo_written, async_written};
 
-use block::layout::{
-    ASYNC_MARK, ASYNC_WORD, TRANSMIT_ACCEPTED, TRANSMIT_LEVEL, TRANSMIT_POSITION, TRANSMIT_RING,
-};
+use block::layout::{ASYNC_MARK, ASYNC_WORD};
+use fifos::entries::{TRANSMIT, append};
 
 // Accepts a word behind those that the transmit FIFO holds.
+#[tactic(auto, using(fifos::proofs::Bounds::transmit_fits))]
 pub fn write_fifo(block: &mut [u32], word: u32)
     requires { (Usable block.old) × (HasRoom block.old) }
     ensures { block.new ≡ fifo_written word block.old }
 {
-    let level = block[TRANSMIT_LEVEL];
-    let position = block[TRANSMIT_POSITION];
-    let accepted = block[TRANSMIT_ACCEPTED];
-    ring::append1(block, TRANSMIT_RING, position, level, word);
-    block[TRANSMIT_LEVEL] = level + 1;
-    block[TRANSMIT_ACCEPTED] = std::num::wrapping_add_u32(accepted, 1);
+    append(block, TRANSMIT, [word]);
 }
 
 // Lets an async word wait.

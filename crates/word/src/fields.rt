@@ -20,7 +20,7 @@ pub fn sign_status(word: u32) -> u32
 pub fn low_byte(label: u32) -> u32
     ensures { result ≡ low_byte label }
 {
-    crate::label(label) as u32
+    u32::from(crate::label(label))
 }
 
 // The SDI/Label index of the words that have a label and an SDI. Of the label its low eight bits count, of the SDI its low two.

@@ -16,7 +16,7 @@ use labels::REVERSED;
 fn reversed_byte(byte: u8) -> u8
     ensures { result ≡ reversed byte }
 {
-    REVERSED[byte as usize]
+    REVERSED[usize::from(byte)]
 }
 
 // The label, bits 1 to 8: written in octal it is the number that the documents list.
@@ -44,7 +44,7 @@ pub fn index(word: u32) -> u32
 pub fn count_of_ones(word: u32) -> u32
     ensures { result ≡ ones word }
 {
-    u32::count_ones(word)
+    word.count_ones()
 }
 
 // Whether odd parity finds the word in error.
@@ -55,6 +55,7 @@ pub fn is_in_error(word: u32) -> bool
 }
 
 // The word with D31 set or cleared so that the count of ones is odd.
+#[tactic(auto, unfolding(crate::specs::Parity::odd_parity))]
 pub fn with_odd_parity(word: u32) -> u32
     ensures { result ≡ odd_parity word }
 {
@@ -66,6 +67,7 @@ pub fn with_odd_parity(word: u32) -> u32
 }
 
 // The word as it goes out, by the channel's parity setting: 0 is off, any other number on.
+#[tactic(auto, unfolding(crate::specs::Parity::as_sent))]
 pub fn as_sent(parity: u32, word: u32) -> u32
     ensures { result ≡ as_sent parity word }
 {
@@ -76,20 +78,15 @@ pub fn as_sent(parity: u32, word: u32) -> u32
 }
 
 // The parity error of a received word, 1 or 0, by the same setting.
+#[tactic(auto, unfolding(crate::specs::Parity::error_mark))]
 pub fn error_mark(parity: u32, word: u32) -> u32
     ensures { result ≡ error_mark parity word }
 {
-    if parity == 0 {
-        return 0;
-    }
-    if is_in_error(word) {
-        return 1;
-    }
-    0
+    u32::from(parity != 0 && is_in_error(word))
 }
 
 // A null time between words, in bit times.
-#[derive(Drop)]
+#[derive(Clone, Copy)]
 pub struct Gap {
     pub time: u32,
 }
@@ -102,17 +99,12 @@ impl Gap {
     pub const GREATEST: u32 = 1_048_575;
 
     // The gap that a number from the message RAM stands for.
+    #[tactic(auto, unfolding(crate::specs::Gap::clamped))]
     pub fn clamp(value: u32) -> Gap
         ensures { result.time ≡ clamped value }
     {
-        if value < Gap::LEAST {
-            return Gap { time: Gap::LEAST };
+        Gap {
+            time: value.clamp(Gap::LEAST, Gap::GREATEST),
         }
-        if Gap::GREATEST < value {
-            return Gap {
-                time: Gap::GREATEST,
-            };
-        }
-        Gap { time: value }
     }
 }

@@ -13,4 +13,4 @@ right byte = eqb (get_or REVERSED byte 0) (reversed byte)
 
 pub returns : goal.returns
 unfolding reversed
-returns c = eqb→eq (get_or REVERSED c.args.byte 0) (reversed c.args.byte) (at right 256 tt c.args.byte (search rules))
+returns c = rw c.from.ensures (eqb→eq (get_or REVERSED c.args.byte 0) (reversed c.args.byte) (at right 256 tt c.args.byte (search rules)))

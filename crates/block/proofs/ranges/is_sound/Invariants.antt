@@ -1,19 +1,11 @@
 -- `block::ranges::is_sound` meets its contract: in both loops, what is told so far is told of the words before the index.
 -- Assumes nothing.
-use Prim.Native.Nat.{◌≤◌, ◌-◌}
 use mathlib.Core.Path.{◌≡◌}
-use Rattle.block.specs.Layout.{ranged, settings}
 use Rattle.block.specs.Ranges.{leasts, greatests, all_within}
 use Rattle.block.proofs.ranges.is_sound.Given as goal
 
 abbrev pub invariant-loop-at : goal.invariant-loop-at
-invariant-loop-at l = (l.at ≤ settings) × (l.sound ≡ all_within leasts greatests l.block l.at)
-
-abbrev pub decreases-loop-at : goal.decreases-loop-at
-decreases-loop-at l = settings - l.at
+invariant-loop-at l = l.sound ≡ all_within leasts greatests l.block l.at
 
 abbrev pub invariant-loop-at-2 : goal.invariant-loop-at-2
-invariant-loop-at-2 l = (l.at ≤ ranged) × (l.sound ≡ all_within leasts greatests l.block l.at)
-
-abbrev pub decreases-loop-at-2 : goal.decreases-loop-at-2
-decreases-loop-at-2 l = ranged - l.at
+invariant-loop-at-2 l = l.sound ≡ all_within leasts greatests l.block l.at
