@@ -55,7 +55,8 @@ pub fn twos_complement(field: u32) -> i32
     ensures { result ≡ twos_complement field }
 {
     if field < HALF {
-        return field as i32;
+        field as i32
+    } else {
+        joined(true, FULL - field)
     }
-    joined(true, FULL - field)
 }

@@ -9,22 +9,10 @@ pub const GREATEST: u32 = 79_999;
 pub fn digit_above_9(field: u32) -> bool
     ensures { result ≡ digit_above9 lower field }
 {
-    if 9 < field % 16 {
-        return true;
-    }
     let tens = field / 16;
-    if 9 < tens % 16 {
-        return true;
-    }
     let hundreds = tens / 16;
-    if 9 < hundreds % 16 {
-        return true;
-    }
     let thousands = hundreds / 16;
-    if 9 < thousands % 16 {
-        return true;
-    }
-    false
+    field % 16 > 9 || tens % 16 > 9 || hundreds % 16 > 9 || thousands % 16 > 9
 }
 
 // The number that the digits give.
