@@ -33,7 +33,7 @@ impl From<Refusal> for u32 {
 impl From<UnknownKind> for Refusal {
     ghost from_gives = { λ _ refusal. refusal ≡ NoEntry };
 
-    fn from(_unknown: UnknownKind) -> Refusal {
-        Refusal::NoEntry
+    fn from(_unknown: UnknownKind) -> Self {
+        Self::NoEntry
     }
 }
