@@ -7,7 +7,6 @@ use Rattle.reading_fields.specs.Digits.{lower}
 use Rattle.reading_fields.proofs.Decimal.{digits_le}
 use Rattle.readings.specs.Reading.{decimal_whole}
 use Rattle.readings.proofs.reading.decimal_whole.Goals as goal
-use Rattle.readings.proofs.reading.decimal_whole.Goals.{in-0, in-3}
 
 pub returns-in_default : goal.returns-in_default
 unfolding decimal_whole
@@ -15,7 +14,7 @@ returns-in_default c = grind (arith, nat_tests)
 
 pub returns-then-digit_above_9 : goal.returns-then-digit_above_9
 unfolding decimal_whole
-returns-then-digit_above_9 c = elim c.match-sign.branch [ in-0 w ↦ grind (arith, nat_tests, to_z-of_z) | in-3 w ↦ grind (arith, nat_tests, to_z-of_z) ]
+returns-then-digit_above_9 c = grind (arith, nat_tests, to_z-of_z)
 
 pub joined-requires : goal.joined-requires
 unfolding decimal_whole
@@ -23,4 +22,4 @@ joined-requires c = omega (arith, digits_le lower c.field-field.result)
 
 pub returns : goal.returns
 unfolding decimal_whole
-returns c = elim c.match-sign.branch [ in-0 w ↦ grind (arith, nat_tests, to_z-of_z) | in-3 w ↦ grind (arith, nat_tests, to_z-of_z) ]
+returns c = grind (arith, nat_tests, to_z-of_z)
