@@ -15,7 +15,7 @@ pub fn digit_above_9(field: u32) -> bool
     field % 16 > 9 || tens % 16 > 9 || hundreds % 16 > 9 || thousands % 16 > 9
 }
 
-// The number that the digits give.
+// The number that the digits give, written out: a loop is no shorter, since the top digit is taken as it stands.
 pub fn of_digits(field: u32) -> u32
     ensures { result ≡ of_digits lower field }
 {

@@ -84,7 +84,7 @@ pub fn read(list: &[u32], word: u32) -> Result<Reading, Refusal>
     reading_by(listed(list, word)?, word)
 }
 
-// The number of what was asked for: 0, or that of its refusal.
+// What follows is for the C interface, whose functions give numbers, and zeros beside a refusal: first the number, 0 or that of the refusal.
 pub fn number_of<T>(answer: &Result<T, Refusal>) -> u32
     ensures { result ≡ number_of answer.now }
 {
