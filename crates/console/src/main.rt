@@ -129,12 +129,7 @@ fn take(out: &mut impl Write, list: &[u32], line: Option<Line>, byte: u8) -> Opt
     }
 }
 
-fn take_all(
-    out: &mut impl Write,
-    list: &[u32],
-    line: Option<Line>,
-    text: &[u8],
-) -> Option<Line> {
+fn take_all(out: &mut impl Write, list: &[u32], line: Option<Line>, text: &[u8]) -> Option<Line> {
     let mut line = line;
     for byte in text {
         line = take(out, list, line, *byte);

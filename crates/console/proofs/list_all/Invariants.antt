@@ -1,6 +1,5 @@
 -- `console::list_all` meets its contract: the bytes from `byte` on give what the whole text gives.
 use mathlib.Core.Path.{◌≡◌}
-use Prim.Native.Nat.{◌≤◌, ◌-◌}
 use lib.ListN.{length, drop}
 use Rattle.console.specs.Labels.{listed, held}
 use Rattle.console.proofs.list_all.Given as goal
