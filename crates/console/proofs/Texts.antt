@@ -3,13 +3,17 @@
 use mathlib.Core.Path.{◌≡◌, refl, ◌∙◌}
 use mathlib.Core.List.{List, [], ◌∷◌}
 use Prim.Native.Nat.{ℕ, ◌+◌, ◌≤◌, ◌<◌}
+use native.Mathlib.Numerals.{add-one}
 use native.Mathlib.Omega.{arith}
 use lib.ListN.{length, drop, get_or, length-drop}
-use Rattle.label_list.proofs.Lists.{next}
+use lib.Seq.{drop-cons}
 use Rattle.text.specs.declared.list.Listed.{Listed}
 use Rattle.text.specs.Listed.{listed_byte, list_after}
 use Rattle.text.proofs.Lengths.{length-after}
 use Rattle.console.specs.Labels.{base_at, listed, held}
+
+next : (l : List ℕ) (i : ℕ) → i < length l → drop i l ≡ get_or l i 0 ∷ drop (i + 1) l
+next l i h = rw (add-one, drop-cons l i 0)
 
 -- one byte more
 pub listed_next : (l : List ℕ) (at : Listed) (t : List ℕ) (i : ℕ) → i < length t

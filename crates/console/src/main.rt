@@ -9,7 +9,9 @@ ghost use Rattle.std.specs.Float.{binary64};
 ghost use Rattle.readings.specs.Units.{scaled};
 ghost use Rattle.console.specs.Labels.{base_at, listed, held};
 
+use reading_fields::signs;
 use readings::reading::Reading;
+use readings::refusals::Refusal;
 use std::fs::{File, Files};
 use std::io;
 use std::io::{Cursor, Error, ErrorKind, Read, Write};
@@ -25,13 +27,6 @@ fn print(out: &mut impl Write, text: &[u8]) {
     streams::write_all(out, text);
 }
 
-fn print_size(out: &mut impl Write, minus: bool, size: u64) {
-    if minus {
-        print(out, b"-");
-    }
-    streams::print_decimal(out, size);
-}
-
 // The digits of a part below one, with the point before them; none where nothing is left.
 fn print_part(out: &mut impl Write, part: u32) {
     if part == 0 {
@@ -39,12 +34,13 @@ fn print_part(out: &mut impl Write, part: u32) {
     }
     print(out, b".");
     let mut rest = part;
-    let mut left = readings::units::DIGITS;
-    while 0 < left && 0 < rest {
+    for _ in 0..readings::units::DIGITS {
+        if rest == 0 {
+            break;
+        }
         let next = readings::units::next(rest);
-        streams::print_decimal(out, next.digit as u64);
+        streams::print_decimal(out, u64::from(next.digit));
         rest = next.rest;
-        left -= 1;
     }
 }
 
@@ -53,67 +49,49 @@ fn print_units(out: &mut impl Write, units: f64)
     requires { T (Ieee.in_signed binary64 63 (scaled units)) }
 {
     let count = readings::units::count(units);
-    let size = readings::units::size(count);
-    print_size(
-        out,
-        readings::units::is_minus(count),
-        size / readings::units::THS as u64,
-    );
-    print_part(out, (size % readings::units::THS as u64) as u32);
+    let size = count.unsigned_abs();
+    let ths = u64::from(readings::units::THS);
+    if signs::is_minus(count) {
+        print(out, b"-");
+    }
+    streams::print_decimal(out, size / ths);
+    print_part(out, (size % ths) as u32);
 }
 
-fn print_refused(out: &mut impl Write, number: u32) {
-    print(out, b"refused ");
-    streams::print_decimal(out, number as u64);
+fn print_refused(out: &mut impl Write, refusal: Refusal) {
+    let _ = write!(out, "refused {}", u32::from(refusal));
 }
 
 // What a word reads as.
 fn print_reading(out: &mut impl Write, list: &[u32], word: u32) {
-    let reading = readings::reading::read(list, word);
-    match reading {
-        Reading::Binary(units) => {
+    match readings::reading::read(list, word) {
+        Ok(Reading::Binary(units)) => {
             print(out, b"binary ");
             print_units(out, units);
         }
-        Reading::Decimal(value) => {
-            print(out, b"decimal ");
-            print_size(
-                out,
-                reading_fields::signs::is_minus(value),
-                reading_fields::signs::size(value) as u64,
-            );
+        Ok(Reading::Decimal(value)) => {
+            let _ = write!(out, "decimal {value}");
         }
-        Reading::Bits(field) => {
-            print(out, b"bits ");
-            streams::print_decimal(out, field as u64);
+        Ok(Reading::Bits(field)) => {
+            let _ = write!(out, "bits {field}");
         }
-        Reading::Refused(number) => {
-            print_refused(out, number);
-        }
+        Err(refusal) => print_refused(out, refusal),
     }
 }
 
 // The word with a value in it.
 fn print_encoded(out: &mut impl Write, list: &[u32], word: u32, value: i32) {
-    let encoded = readings::encoding::encode(list, word, value);
-    if encoded.number == 0 {
-        print(out, b"word ");
-        streams::print_hex(out, encoded.word);
-    } else {
-        print_refused(out, encoded.number);
+    match readings::encoding::encode(list, word, value) {
+        Ok(made) => {
+            let _ = write!(out, "word {made:08x}");
+        }
+        Err(refusal) => print_refused(out, refusal),
     }
 }
 
 // The label in octal, three digits.
 fn print_label(out: &mut impl Write, word: u32) {
-    let label = word::label(word);
-    let digits = [
-        b'0' + label / 64,
-        b'0' + label / 8 % 8,
-        b'0' + label % 8,
-        b' ',
-    ];
-    print(out, &digits);
+    let _ = write!(out, "{:03o} ", word::label(word));
 }
 
 // The line for one line of the input.
@@ -140,46 +118,29 @@ fn answer(out: &mut impl Write, list: &[u32], line: Line) {
     print(out, b"\n");
 }
 
-// A line as far as it was read, and whether it has begun.
-#[derive(Clone, Copy)]
-struct Input {
-    line: Line,
-    begun: bool,
-}
-
-fn start() -> Input {
-    Input {
-        line: text::line::begun(),
-        begun: false,
-    }
-}
-
-fn take(out: &mut impl Write, list: &[u32], input: Input, byte: u8) -> Input {
-    let line = input.line;
+// One byte more of a line, if one has begun: its end is answered.
+fn take(out: &mut impl Write, list: &[u32], line: Option<Line>, byte: u8) -> Option<Line> {
+    let line = line.unwrap_or(text::line::begun());
     if byte == b'\n' {
         answer(out, list, line);
-        return start();
-    }
-    Input {
-        line: text::line::taken(line, byte),
-        begun: true,
+        None
+    } else {
+        Some(text::line::taken(line, byte))
     }
 }
 
-fn take_all(out: &mut impl Write, list: &[u32], input: Input, text: &[u8]) -> Input {
-    let mut input = input;
-    let mut at = 0;
-    while at < text.len() {
-        input = take(out, list, input, text[at]);
-        at += 1;
+fn take_all(out: &mut impl Write, list: &[u32], line: Option<Line>, text: &[u8]) -> Option<Line> {
+    let mut line = line;
+    for byte in text {
+        line = take(out, list, line, *byte);
     }
-    input
+    line
 }
 
 // Answers the lines of the input; a last line without a line end counts. The loop has more turns than a run uses up.
 fn answer_all(input: &mut impl Read, out: &mut impl Write, list: &[u32]) {
     let mut buffer = streams::buffer();
-    let mut read = start();
+    let mut read = None;
     for _ in 0..u64::MAX {
         let n = streams::read_full(input, &mut buffer);
         read = take_all(out, list, read, &buffer[..n]);
@@ -187,8 +148,7 @@ fn answer_all(input: &mut impl Read, out: &mut impl Write, list: &[u32]) {
             break;
         }
     }
-    let line = read.line;
-    if read.begun {
+    if let Some(line) = read {
         answer(out, list, line);
     }
 }
@@ -209,11 +169,9 @@ fn list_all(list: &mut [u32], at: Listed, text: &[u8]) -> Listed
     ensures after { list.new ≡ held list.old at text.now }
 {
     let mut at = at;
-    let mut place = 0;
-    while place < text.len() {
+    for byte in text {
         let count = at.count;
-        at = text::list::list_byte(list, base(count), at, text[place]);
-        place += 1;
+        at = text::list::list_byte(list, base(count), at, *byte);
     }
     at
 }

@@ -1,7 +1,8 @@
 // The C interface as a static library: each function of `host` under its C name, with its clauses. The archive is libhost.a.
 #![tactic(auto)]
 
-ghost use Rattle.std.specs.Prelude.{◌≡◌, length};
+ghost use Rattle.std.specs.Prelude.{◌≡◌, length, pos};
+ghost use Rattle.std.specs.Result.{result_unwrap_or};
 ghost use Rattle.word.specs.Word.{label, sdi, index};
 ghost use Rattle.items.specs.Items.{decoded};
 ghost use Rattle.host.specs.Host.{host_words, host_number, host_values, host_after};
@@ -122,7 +123,7 @@ pub extern "C" fn nqabelihu_read_word(
 // The whole number in a word, binary undivided; 0 beside a refusal.
 #[unsafe(no_mangle)]
 pub extern "C" fn nqabelihu_whole_number(list: &[u32], word: u32) -> i32
-    ensures { result ≡ (whole list.now word).value }
+    ensures { result ≡ result_unwrap_or (whole list.now word) (pos 0) }
 {
     host::reading_words::nqabelihu_whole_number(list, word)
 }
@@ -130,8 +131,8 @@ pub extern "C" fn nqabelihu_whole_number(list: &[u32], word: u32) -> i32
 // The word with a whole number in it: the result is the number, and `result` takes the word, 0 beside a refusal.
 #[unsafe(no_mangle)]
 pub extern "C" fn nqabelihu_encode_word(list: &[u32], word: u32, value: i32, res: &mut u32) -> u32
-    ensures number { result ≡ (encoded list.now word value).number }
-    ensures word { res.new ≡ (encoded list.now word value).word }
+    ensures number { result ≡ number_of (encoded list.now word value) }
+    ensures word { res.new ≡ result_unwrap_or (encoded list.now word value) 0 }
 {
     host::reading_words::nqabelihu_encode_word(list, word, value, res)
 }

@@ -1,6 +1,6 @@
 -- The divisors of a list are the powers of two from 1 to 262,144.
 -- Assumes nothing.
-use mathlib.Core.Path.{◌≡◌, refl, sym}
+use mathlib.Core.Path.{◌≡◌, refl, sym, ap, ◌∙◌}
 use mathlib.Core.Bool.{Bool, true, false, not, cond, true≢false}
 use mathlib.Core.Logic.{◌⊎◌, inl, inr}
 use mathlib.Core.List.{List, [], ◌∷◌}
@@ -8,6 +8,7 @@ use Prim.Native.Nat.{ℕ, zero, suc, ◌/◌, ◌%◌, ◌^◌, ◌≤◌, ◌<�
 use native.Mathlib.Nat.{pow-suc, eq-zero-or-pos}
 use native.Mathlib.Decide.{dec_le}
 use native.Mathlib.Omega.{arith}
+use Rattle.std.specs.Prelude.{Some}
 use lib.Count.{ones_in}
 use lib.Dec.{eqb, ltb}
 use lib.Pow.{pow_mono}
@@ -70,9 +71,6 @@ pub power_divisor : (k : ℕ) → k < 19 → is_divisor (2 ^ k) ≡ true
 unfolding is_divisor ones ones_in
 power_divisor k h = passes (λ j. is_divisor (2 ^ j)) 19 tt k h
 
-abbrev entry : ℕ → ℕ → Entry
-entry kind divisor = record { kind = kind; divisor = divisor }
-
 not_false : (t : Bool) → not t ≡ false → t ≡ true
 not_false true e = refl
 not_false false e = absurd (true≢false e)
@@ -87,18 +85,20 @@ right_binary label kind divisor e k = go (ltb 255 label) (rw (eq-eqb kind binary
     go false e = not_false (is_divisor divisor) e
 
 -- what counts for a label in a list that is not wrong: a binary entry has a divisor
-pub divisor_of : (wanted : ℕ) (list : List ℕ) → list_wrong list ≡ false → (entry_for wanted list).kind ≡ binary
-    → is_divisor (entry_for wanted list).divisor ≡ true
+pub divisor_of : (wanted : ℕ) (list : List ℕ) (entry : Entry) → list_wrong list ≡ false → entry_for wanted list ≡ Some entry → entry.kind ≡ binary
+    → is_divisor entry.divisor ≡ true
 unfolding list_wrong entry_for
-divisor_of wanted [] r k = absurd (omega arith)
-divisor_of wanted (l ∷ []) r k = absurd (omega arith)
-divisor_of wanted (l ∷ n ∷ []) r k = absurd (omega arith)
-divisor_of wanted (l ∷ n ∷ d ∷ rest) r k = go (eqb l wanted) (entry_wrong l n d) refl (divisor_of wanted rest) r k
+divisor_of wanted [] entry r s k = absurd (cc)
+divisor_of wanted (l ∷ []) entry r s k = absurd (cc)
+divisor_of wanted (l ∷ n ∷ []) entry r s k = absurd (cc)
+divisor_of wanted (l ∷ n ∷ d ∷ rest) entry r s k = go (eqb l wanted) (entry_wrong l n d) refl (divisor_of wanted rest entry) r s
   where
     go : (t u : Bool) → entry_wrong l n d ≡ u
-        → (list_wrong rest ≡ false → (entry_for wanted rest).kind ≡ binary → is_divisor (entry_for wanted rest).divisor ≡ true)
-        → cond u true (list_wrong rest) ≡ false → (cond t (entry n d) (entry_for wanted rest)).kind ≡ binary
-        → is_divisor (cond t (entry n d) (entry_for wanted rest)).divisor ≡ true
-    go t true e behind r k = absurd (true≢false r)
-    go true false e behind r k = right_binary l n d e k
-    go false false e behind r k = behind r k
+        → (list_wrong rest ≡ false → entry_for wanted rest ≡ Some entry → entry.kind ≡ binary → is_divisor entry.divisor ≡ true)
+        → cond u true (list_wrong rest) ≡ false → cond t (Some (record { kind = n; divisor = d })) (entry_for wanted rest) ≡ Some entry
+        → is_divisor entry.divisor ≡ true
+    go t true e behind r s = absurd (true≢false r)
+    go true false e behind r s =
+        let q : ◌≡◌ {A = Entry} (record { kind = n; divisor = d }) entry = cc in
+        rw (← q) (right_binary l n d e (ap (λ (x : Entry). x.kind) q ∙ k))
+    go false false e behind r s = behind r s k

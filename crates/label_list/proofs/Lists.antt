@@ -1,77 +1,65 @@
--- The label list, an entry after the other.
+-- The label list, three numbers after three.
 -- Assumes nothing.
-use mathlib.Core.Path.{◌≡◌, refl, ap, ◌∙◌}
-use mathlib.Core.Bool.{true, false}
-use mathlib.Core.List.{List, [], ◌∷◌}
-use Prim.Native.Nat.{ℕ, ◌+◌, ◌-◌, ◌≤◌, ◌<◌}
-use native.Mathlib.Numerals.{add-one}
-use native.Mathlib.Omega.{arith}
-use lib.ListN.{length, drop, get_or, length-drop}
-use lib.Seq.{drop-cons}
-use borrow.Author.Tests.{eq-eqb, ne_eqb}
-use Rattle.label_list.specs.Entries.{entry_wrong, list_wrong, entry_for, unlisted}
+use Rattle.std.proofs.Common.{◌≡◌, refl, ℕ, zero, suc, ◌*◌, ◌/◌, ◌%◌, ◌<◌, Bool, true, false, cond, ◌||◌, List, [], ◌∷◌, length, get_or, Some, eqb, arith}
+use Rattle.std.specs.List.{list_any, find}
+use Rattle.std.specs.Option.{option_map}
+use Rattle.std.specs.Simd.{first_chunks}
+use Rattle.label_list.specs.declared.entries.Entry.{Entry}
+use Rattle.label_list.specs.Entries.{entry_wrong, list_wrong, entry_for}
 
--- a list from an element on
-pub next : (l : List ℕ) (i : ℕ) → i < length l → drop i l ≡ get_or l i 0 ∷ drop (i + 1) l
-next l i h = rw (add-one, drop-cons l i 0)
+-- whether three numbers are an entry that is refused
+abbrev pub wrong : List ℕ → Bool
+wrong e = entry_wrong (get_or e 0 0) (get_or e 1 0) (get_or e 2 0)
 
--- the three numbers of an entry, and the entries behind it
-pub entry_at : (l : List ℕ) (at : ℕ) → 3 ≤ length l - at → drop at l ≡ get_or l at 0 ∷ get_or l (at + 1) 0 ∷ get_or l (at + 2) 0 ∷ drop (at + 3) l
-entry_at l at h =
-    let two : at + 1 + 1 ≡ at + 2 = omega arith in
-    let three : at + 2 + 1 ≡ at + 3 = omega arith in
-    next l at (omega arith) ∙ ap (λ r. get_or l at 0 ∷ r) (next l (at + 1) (omega arith) ∙ ap (λ k. get_or l (at + 1) 0 ∷ drop k l) two
-    ∙ ap (λ r. get_or l (at + 1) 0 ∷ r) (next l (at + 2) (omega arith) ∙ ap (λ k. get_or l (at + 2) 0 ∷ drop k l) three))
+-- whether they are an entry for a label
+abbrev pub is_for : ℕ → List ℕ → Bool
+is_for wanted e = eqb (get_or e 0 0) wanted
 
--- an entry that is wrong makes the list wrong, and behind one that is right the list goes on
-pub one_wrong : (l : List ℕ) (at : ℕ) → 3 ≤ length l - at → entry_wrong (get_or l at 0) (get_or l (at + 1) 0) (get_or l (at + 2) 0) ≡ true
-    → list_wrong (drop at l) ≡ true
-unfolding list_wrong
-one_wrong l at h e = rw (entry_at l at h, e)
-
-pub one_right : (l : List ℕ) (at : ℕ) → 3 ≤ length l - at → entry_wrong (get_or l at 0) (get_or l (at + 1) 0) (get_or l (at + 2) 0) ≡ false
-    → list_wrong (drop at l) ≡ list_wrong (drop (at + 3) l)
-unfolding list_wrong
-one_right l at h e = rw (entry_at l at h, e)
-
--- an entry for the label is the one that counts, and behind one for another label the search goes on
-pub one_found : (wanted : ℕ) (l : List ℕ) (at : ℕ) → 3 ≤ length l - at → get_or l at 0 ≡ wanted
-    → entry_for wanted (drop at l) ≡ record { kind = get_or l (at + 1) 0; divisor = get_or l (at + 2) 0 }
-unfolding entry_for
-one_found wanted l at h e = rw (entry_at l at h, eq-eqb (get_or l at 0) wanted e)
-
-pub one_other : (wanted : ℕ) (l : List ℕ) (at : ℕ) → 3 ≤ length l - at → (get_or l at 0 ≡ wanted → ⊥)
-    → entry_for wanted (drop at l) ≡ entry_for wanted (drop (at + 3) l)
-unfolding entry_for
-one_other wanted l at h e = rw (entry_at l at h, ne_eqb (get_or l at 0) wanted e)
-
-short : (s : List ℕ) → 0 < length s → length s < 3 → list_wrong s ≡ true
-unfolding list_wrong
-short [] h k = absurd (omega arith)
-short (a ∷ []) h k = refl
-short (a ∷ b ∷ []) h k = refl
-short (a ∷ b ∷ c ∷ s) h k = absurd (omega arith)
+-- what they say of it
+abbrev pub entry_of : List ℕ → Entry
+entry_of e = record { kind = get_or e 1 0; divisor = get_or e 2 0 }
 
 -- an entry that is cut short
-pub cut_short : (l : List ℕ) (at : ℕ) → at < length l → length l - at < 3 → list_wrong (drop at l) ≡ true
-cut_short l at h k = short (drop at l) (simp length-drop (omega arith)) (simp length-drop (omega arith))
-
-few : (wanted : ℕ) (s : List ℕ) → length s < 3 → entry_for wanted s ≡ unlisted
-unfolding entry_for
-few wanted [] k = refl
-few wanted (a ∷ []) k = refl
-few wanted (a ∷ b ∷ []) k = refl
-few wanted (a ∷ b ∷ c ∷ s) k = absurd (omega arith)
-
--- no further entry
-pub none_left : (wanted : ℕ) (l : List ℕ) (at : ℕ) → length l - at < 3 → entry_for wanted (drop at l) ≡ unlisted
-none_left wanted l at k = few wanted (drop at l) (simp length-drop (omega arith))
-
-nothing : (s : List ℕ) → length s ≡ 0 → list_wrong s ≡ false
+pub cut_short : (l : List ℕ) → 0 < length l % 3 → list_wrong l ≡ true
 unfolding list_wrong
-nothing [] e = refl
-nothing (a ∷ s) e = absurd (omega arith)
+cut_short [] h = absurd (omega arith)
+cut_short (a ∷ []) h = refl
+cut_short (a ∷ b ∷ []) h = refl
+cut_short (a ∷ b ∷ c ∷ l) h = go (entry_wrong a b c) (cut_short l (omega arith))
+  where
+    go : (t : Bool) → list_wrong l ≡ true → cond t true (list_wrong l) ≡ true
+    go true e = refl
+    go false e = e
 
--- the end of the list
-pub at_end : (l : List ℕ) (at : ℕ) → length l ≤ at → list_wrong (drop at l) ≡ false
-at_end l at h = nothing (drop at l) (simp length-drop (omega arith))
+-- a list of whole entries
+pub any_wrong : (k : ℕ) (l : List ℕ) → length l ≡ 3 * k → list_any wrong (first_chunks 3 k l) ≡ list_wrong l
+unfolding list_wrong
+any_wrong zero [] h = refl
+any_wrong zero (a ∷ l) h = absurd (omega arith)
+any_wrong (suc k) [] h = absurd (omega arith)
+any_wrong (suc k) (a ∷ []) h = absurd (omega arith)
+any_wrong (suc k) (a ∷ b ∷ []) h = absurd (omega arith)
+any_wrong (suc k) (a ∷ b ∷ c ∷ l) h = go (entry_wrong a b c) (any_wrong k l (omega arith))
+  where
+    go : (t : Bool) → list_any wrong (first_chunks 3 k l) ≡ list_wrong l → (t || list_any wrong (first_chunks 3 k l)) ≡ cond t true (list_wrong l)
+    go true e = refl
+    go false e = e
+
+-- the first entry for a label
+pub first_for : (wanted k : ℕ) (l : List ℕ) → length l / 3 ≡ k
+    → option_map entry_of (find (is_for wanted) (first_chunks 3 k l)) ≡ entry_for wanted l
+unfolding entry_for
+first_for wanted zero [] h = refl
+first_for wanted zero (a ∷ []) h = refl
+first_for wanted zero (a ∷ b ∷ []) h = refl
+first_for wanted zero (a ∷ b ∷ c ∷ l) h = absurd (omega arith)
+first_for wanted (suc k) [] h = absurd (omega arith)
+first_for wanted (suc k) (a ∷ []) h = absurd (omega arith)
+first_for wanted (suc k) (a ∷ b ∷ []) h = absurd (omega arith)
+first_for wanted (suc k) (a ∷ b ∷ c ∷ l) h = go (eqb a wanted) (first_for wanted k l (omega arith))
+  where
+    go : (t : Bool) → option_map entry_of (find (is_for wanted) (first_chunks 3 k l)) ≡ entry_for wanted l
+        → option_map entry_of (cond t (Some (a ∷ b ∷ c ∷ [])) (find (is_for wanted) (first_chunks 3 k l)))
+        ≡ cond t (Some (record { kind = b; divisor = c })) (entry_for wanted l)
+    go true e = refl
+    go false e = e

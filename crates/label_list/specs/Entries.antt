@@ -1,6 +1,6 @@
 -- "by a label list the site supplies, each entry three 32-bit numbers: label, kind (1 binary, 2 decimal, 3 bit field), divisor (read for
 -- binary only)" (paper 02, (iv)).
-use Rattle.std.specs.Prelude.{ℕ, ◌^◌, Bool, true, false, not, cond, List, [], ◌∷◌, eqb, ltb}
+use Rattle.std.specs.Prelude.{ℕ, ◌^◌, Bool, true, false, not, cond, List, [], ◌∷◌, eqb, ltb, Option, Some, None}
 use Rattle.word.specs.Word.{ones}
 use Rattle.label_list.specs.declared.entries.Entry.{Entry}
 
@@ -31,13 +31,10 @@ list_wrong (label ∷ []) = true
 list_wrong (label ∷ kind ∷ []) = true
 list_wrong (label ∷ kind ∷ divisor ∷ rest) = cond (entry_wrong label kind divisor) true (list_wrong rest)
 
--- what stands for a label that is not listed: kind 0 is no kind
-abbrev pub unlisted : Entry
-unlisted = record { kind = 0; divisor = 0 }
-
 -- "The first entry for a label counts."
-unfoldable pub entry_for : ℕ → List ℕ → Entry
-entry_for wanted [] = unlisted
-entry_for wanted (label ∷ []) = unlisted
-entry_for wanted (label ∷ kind ∷ []) = unlisted
-entry_for wanted (label ∷ kind ∷ divisor ∷ rest) = cond (eqb label wanted) (record { kind = kind; divisor = divisor }) (entry_for wanted rest)
+unfoldable pub entry_for : ℕ → List ℕ → Option Entry
+entry_for wanted [] = None
+entry_for wanted (label ∷ []) = None
+entry_for wanted (label ∷ kind ∷ []) = None
+entry_for wanted (label ∷ kind ∷ divisor ∷ rest) =
+    cond (eqb label wanted) (Some (record { kind = kind; divisor = divisor })) (entry_for wanted rest)

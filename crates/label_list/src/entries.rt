@@ -1,16 +1,8 @@
-// The label list: three numbers to an entry, label, kind and divisor.
+// The label list: three numbers to an entry, label, kind and divisor. C lends the list as such numbers, with no room for entries made of them.
 ghost use Rattle.std.specs.Prelude.{◌≡◌};
 ghost use Rattle.label_list.specs.Entries.{is_divisor, entry_wrong, list_wrong, entry_for};
 
-// The kinds of an entry.
-pub const BINARY: u32 = 1;
-
-pub const DECIMAL: u32 = 2;
-
-pub const BIT_FIELD: u32 = 3;
-
-// The kind of a label that is not listed.
-pub const UNLISTED: u32 = 0;
+use crate::kinds::{Kind, UnknownKind};
 
 const GREATEST_LABEL: u32 = 255;
 
@@ -19,8 +11,8 @@ const GREATEST_DIVISOR: u32 = 262_144;
 // The numbers of an entry.
 const SIZE: usize = 3;
 
-// What an entry says of its label.
-#[derive(Drop)]
+// What an entry says of its label, as it stands in the list: in a list that is refused the kind may be any number.
+#[derive(Clone, Copy)]
 pub struct Entry {
     pub kind: u32,
     pub divisor: u32,
@@ -30,64 +22,43 @@ pub struct Entry {
 pub fn is_divisor(divisor: u32) -> bool
     ensures { result ≡ is_divisor divisor }
 {
-    if GREATEST_DIVISOR < divisor {
-        return false;
-    }
-    word::count_of_ones(divisor) == 1
+    divisor <= GREATEST_DIVISOR && divisor.is_power_of_two()
 }
 
 // Whether an entry is refused with 60.
 pub fn entry_wrong(label: u32, kind: u32, divisor: u32) -> bool
     ensures { result ≡ entry_wrong label kind divisor }
 {
-    if GREATEST_LABEL < label {
+    if label > GREATEST_LABEL {
         return true;
     }
-    if kind == BINARY {
-        return !is_divisor(divisor);
+    match Kind::try_from(kind) {
+        Ok(Kind::Binary) => !is_divisor(divisor),
+        Ok(Kind::Decimal) => false,
+        Ok(Kind::BitField) => false,
+        Err(UnknownKind) => true,
     }
-    if kind == DECIMAL {
-        return false;
-    }
-    if kind == BIT_FIELD {
-        return false;
-    }
-    true
 }
 
 // Whether one entry of the list is cut short or refused.
 pub fn list_wrong(list: &[u32]) -> bool
     ensures { result ≡ list_wrong list.now }
 {
-    let mut at = 0;
-    while at < list.len() {
-        if list.len() - at < SIZE {
-            return true;
-        }
-        if entry_wrong(list[at], list[at + 1], list[at + 2]) {
-            return true;
-        }
-        at += SIZE;
-    }
-    false
+    let (entries, cut) = list.as_chunks::<SIZE>();
+    !cut.is_empty()
+        || entries
+            .iter()
+            .any(|entry| entry_wrong(entry[0], entry[1], entry[2]))
 }
 
 // The first entry for a label.
-pub fn find(label: u32, list: &[u32]) -> Entry
+pub fn find(label: u32, list: &[u32]) -> Option<Entry>
     ensures { result ≡ entry_for label list.now }
 {
-    let mut at = 0;
-    while SIZE <= list.len() - at {
-        if list[at] == label {
-            return Entry {
-                kind: list[at + 1],
-                divisor: list[at + 2],
-            };
-        }
-        at += SIZE;
-    }
-    Entry {
-        kind: UNLISTED,
-        divisor: 0,
-    }
+    let (entries, _) = list.as_chunks::<SIZE>();
+    let entry = entries.iter().find(|entry| entry[0] == label)?;
+    Some(Entry {
+        kind: entry[1],
+        divisor: entry[2],
+    })
 }

@@ -2,3 +2,4 @@
 #![tactic(auto)]
 
 pub mod entries;
+pub mod kinds;

@@ -9,7 +9,7 @@ pub const FULL: u32 = 0x8_0000;
 
 pub const HALF: u32 = 0x4_0000;
 
-// The two signs.
+// The two signs, as they stand in bits 30 and 31: a number and no enum, since the clause of `sign` gives all four and `with_sign` puts any.
 pub const PLUS: u32 = 0;
 
 pub const MINUS: u32 = 3;
@@ -55,7 +55,8 @@ pub fn twos_complement(field: u32) -> i32
     ensures { result ≡ twos_complement field }
 {
     if field < HALF {
-        return field as i32;
+        field as i32
+    } else {
+        joined(true, FULL - field)
     }
-    joined(true, FULL - field)
 }

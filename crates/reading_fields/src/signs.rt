@@ -1,10 +1,10 @@
 // Whole numbers with a sign, as a sign and a size.
-ghost use Rattle.std.specs.Prelude.{◌≡◌, ◌<◌, ◌^◌, nat_abs};
+ghost use Rattle.std.specs.Prelude.{◌≡◌, ◌<◌, ◌^◌};
 ghost use Rattle.std.specs.Int.Signed.{mag};
 ghost use Rattle.reading_fields.specs.Signs.{signed, minus};
 
-// Whether a number is below zero.
-pub fn is_minus(value: i32) -> bool
+// Whether a number is below zero, of any size that a machine's number with a sign has.
+pub fn is_minus(value: i64) -> bool
     ensures { result ≡ minus value }
 {
     value < 0
@@ -14,20 +14,11 @@ pub fn is_minus(value: i32) -> bool
 pub fn magnitude(value: i32) -> u32
     ensures { result ≡ mag value }
 {
-    if is_minus(value) {
-        return !value as u32;
+    if value >= 0 {
+        value as u32
+    } else {
+        !value as u32
     }
-    value as u32
-}
-
-// The size of a number.
-pub fn size(value: i32) -> u32
-    ensures { result ≡ nat_abs value }
-{
-    if is_minus(value) {
-        return magnitude(value) + 1;
-    }
-    magnitude(value)
 }
 
 // The number of a sign and a size.
@@ -35,8 +26,6 @@ pub fn joined(minus: bool, size: u32) -> i32
     requires { size < 2 ^ 31 }
     ensures { result ≡ signed minus size }
 {
-    if minus {
-        return -(size as i32);
-    }
-    size as i32
+    let number = size as i32;
+    if minus { -number } else { number }
 }

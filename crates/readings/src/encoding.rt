@@ -1,89 +1,55 @@
 // A whole number put into a word, by the list.
 ghost use Rattle.std.specs.Prelude.{◌≡◌};
-ghost use Rattle.readings.specs.Encoding.{unmade, binary_encoded, decimal_encoded, encoded_by, encoded};
+ghost use Rattle.readings.specs.Encoding.{binary_encoded, decimal_encoded, encoded_by, encoded};
 
-use crate::reading::{LIST_REFUSED, NO_ENTRY};
-use label_list::entries;
-use label_list::entries::{BINARY, DECIMAL};
+use crate::listed::listed;
+use crate::refusals::Refusal;
+use label_list::kinds::Kind;
 use reading_fields::{bits, digits, signs};
 
-// A value outside its range.
-pub const OUTSIDE: u32 = 64;
-
-// A word with the number in it, or the number of a refusal with 0 beside it.
-#[derive(Drop)]
-pub struct Encoded {
-    pub number: u32,
-    pub word: u32,
-}
-
-fn made(word: u32) -> Encoded
-    ensures { result ≡ Rattle.readings.specs.Encoding.made word }
-{
-    Encoded {
-        number: 0,
-        word: word,
-    }
-}
-
-fn unmade(number: u32) -> Encoded
-    ensures { result ≡ unmade number }
-{
-    Encoded {
-        number: number,
-        word: 0,
-    }
-}
-
 // A number in two's complement.
-pub fn binary_encoded(word: u32, value: i32) -> Encoded
+pub fn binary_encoded(word: u32, value: i32) -> Result<u32, Refusal>
     ensures { result ≡ binary_encoded word value }
 {
     let magnitude = signs::magnitude(value);
-    if magnitude < bits::HALF {
-        if signs::is_minus(value) {
-            return made(bits::with_field(word, bits::FULL - 1 - magnitude));
-        }
-        return made(bits::with_field(word, magnitude));
+    if magnitude >= bits::HALF {
+        return Err(Refusal::OutsideRange);
     }
-    unmade(OUTSIDE)
+    if signs::is_minus(i64::from(value)) {
+        return Ok(bits::with_field(word, bits::FULL - 1 - magnitude));
+    }
+    Ok(bits::with_field(word, magnitude))
 }
 
 // A number of five digits, with its sign.
-pub fn decimal_encoded(word: u32, value: i32) -> Encoded
+pub fn decimal_encoded(word: u32, value: i32) -> Result<u32, Refusal>
     ensures { result ≡ decimal_encoded word value }
 {
-    let size = signs::size(value);
-    if digits::GREATEST < size {
-        return unmade(OUTSIDE);
+    let size = value.unsigned_abs();
+    if size > digits::GREATEST {
+        return Err(Refusal::OutsideRange);
     }
     let filled = bits::with_field(word, digits::to_digits(size));
-    if signs::is_minus(value) {
-        return made(bits::with_sign(filled, bits::MINUS));
+    if signs::is_minus(i64::from(value)) {
+        return Ok(bits::with_sign(filled, bits::MINUS));
     }
-    made(bits::with_sign(filled, bits::PLUS))
+    Ok(bits::with_sign(filled, bits::PLUS))
 }
 
 // The word with the number in it, by the kind of its entry.
-pub fn encoded_by(kind: u32, word: u32, value: i32) -> Encoded
+pub fn encoded_by(kind: u32, word: u32, value: i32) -> Result<u32, Refusal>
     ensures { result ≡ encoded_by kind word value }
 {
-    if kind == BINARY {
-        return binary_encoded(word, value);
+    match Kind::try_from(kind)? {
+        Kind::Binary => binary_encoded(word, value),
+        Kind::Decimal => decimal_encoded(word, value),
+        Kind::BitField => Err(Refusal::NoEntry),
     }
-    if kind == DECIMAL {
-        return decimal_encoded(word, value);
-    }
-    unmade(NO_ENTRY)
 }
 
 // The word with the number in it, by the list.
-pub fn encode(list: &[u32], word: u32, value: i32) -> Encoded
+pub fn encode(list: &[u32], word: u32, value: i32) -> Result<u32, Refusal>
     ensures { result ≡ encoded list.now word value }
 {
-    if entries::list_wrong(list) {
-        return unmade(LIST_REFUSED);
-    }
-    let entry = entries::find(word::label(word) as u32, list);
-    encoded_by(entry.kind, word, value)
+    encoded_by(listed(list, word)?.kind, word, value)
 }

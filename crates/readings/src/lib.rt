@@ -3,5 +3,7 @@
 #![tactic(auto)]
 
 pub mod encoding;
+mod listed;
 pub mod reading;
+pub mod refusals;
 pub mod units;

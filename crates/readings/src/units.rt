@@ -1,8 +1,7 @@
 // The exact decimal value of a number in units: a count of 262,144ths, and its digits one after the other.
-ghost use Rattle.std.specs.Prelude.{◌≡◌, ◌+◌, T, nat_abs};
+ghost use Rattle.std.specs.Prelude.{◌≡◌, ◌+◌, T};
 ghost use Rattle.std.specs.Float.Ieee as Ieee;
 ghost use Rattle.std.specs.Float.{binary64};
-ghost use Rattle.reading_fields.specs.Signs.{minus};
 ghost use Rattle.readings.specs.Units.{scaled, count_of, first_digit, next_rest};
 
 // Every number in units is a whole count of these.
@@ -23,24 +22,7 @@ pub fn count(units: f64) -> i64
     requires { T (Ieee.in_signed binary64 63 (scaled units)) }
     ensures { result ≡ count_of units }
 {
-    (units * (THS as f64)) as i64
-}
-
-// Whether a count is below zero.
-pub fn is_minus(count: i64) -> bool
-    ensures { result ≡ minus count }
-{
-    count < 0
-}
-
-// The size of a count.
-pub fn size(count: i64) -> u64
-    ensures { result ≡ nat_abs count }
-{
-    if is_minus(count) {
-        return !count as u64 + 1;
-    }
-    count as u64
+    (units * f64::from(THS)) as i64
 }
 
 // The first digit behind the point of a part below one.

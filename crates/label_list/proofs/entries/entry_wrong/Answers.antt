@@ -1,6 +1,7 @@
 -- `label_list::entries::entry_wrong` meets its contract: each branch is a case of the definition.
 -- Assumes nothing.
 use Rattle.word.proofs.Branches.{branches}
+use Rattle.label_list.specs.declared.kinds.Kind.TheVariants.{Binary, Decimal, BitField}
 use Rattle.label_list.specs.Entries.{entry_wrong}
 use Rattle.label_list.proofs.entries.entry_wrong.Goals as goal
 
@@ -8,18 +9,18 @@ pub returns-then-label-gt-GREATEST_LABEL : goal.returns-then-label-gt-GREATEST_L
 unfolding entry_wrong
 returns-then-label-gt-GREATEST_LABEL c = search branches
 
-pub returns-then-kind-eq-BINARY : goal.returns-then-kind-eq-BINARY
+pub returns-in-Ok-Binary : goal.returns-in-Ok-Binary
 unfolding entry_wrong
-returns-then-kind-eq-BINARY c = search (branches, c.is_divisor.ensures)
+returns-in-Ok-Binary c = search (branches, c.is_divisor.ensures)
 
-pub returns-then-kind-eq-DECIMAL : goal.returns-then-kind-eq-DECIMAL
+pub returns-in-Ok-Decimal : goal.returns-in-Ok-Decimal
 unfolding entry_wrong
-returns-then-kind-eq-DECIMAL c = search branches
+returns-in-Ok-Decimal c = search branches
 
-pub returns-then-kind-eq-BIT_FIELD : goal.returns-then-kind-eq-BIT_FIELD
+pub returns-in-Ok-BitField : goal.returns-in-Ok-BitField
 unfolding entry_wrong
-returns-then-kind-eq-BIT_FIELD c = search branches
+returns-in-Ok-BitField c = search branches
 
-pub returns : goal.returns
+pub returns-in-Err : goal.returns-in-Err
 unfolding entry_wrong
-returns c = search branches
+returns-in-Err c = search (branches, c.in-Err.ensures Binary, c.in-Err.ensures Decimal, c.in-Err.ensures BitField)

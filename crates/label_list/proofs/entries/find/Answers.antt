@@ -1,26 +1,21 @@
--- `label_list::entries::find` meets its contract: the entries from `at` on have the same first entry for the label.
+-- `label_list::entries::find` meets its contract: the first three numbers for the label are the entry that counts.
 -- Assumes nothing.
-use mathlib.Core.Path.{refl, sym, ◌∙◌}
-use native.Mathlib.Omega.{arith}
-use Rattle.label_list.proofs.Lists.{one_found, one_other, none_left}
-use borrow.Author.Rules.{rules}
+use Rattle.std.proofs.Common.{◌/◌, length, refl, rules, tests, ◌∙◌, ap}
+use Rattle.std.specs.List.{find}
+use Rattle.std.specs.Option.{option_map}
+use Rattle.std.proofs.lemmas.Iterator.{YieldsList-from_slice}
+use Rattle.std.proofs.lemmas.Iterator.Search.{find_from_yields_List}
+use Rattle.label_list.proofs.Lists.{is_for, entry_of, first_for}
 use Rattle.label_list.proofs.entries.find.Goals as goal
 
-pub loop-at-init : goal.loop-at-init
-loop-at-init c = (search rules, refl)
-
-pub returns-then-list-at : goal.returns-then-list-at
-returns-then-list-at c = sym (one_found c.args.label
-    c.args.list.now c.loop-at.at (omega arith)
-    (omega arith)) ∙ c.loop-at.invariant.1
-
-pub loop-at-preserved : goal.loop-at-preserved
-loop-at-preserved c = (
-  omega arith,
-  sym (one_other c.args.label c.args.list.now
-      c.loop-at.at (omega arith) c.if-list-at.false) ∙ c.loop-at.invariant.1,
-)
+pub returns-in_err-entry : goal.returns-in_err-entry
+returns-in_err-entry c =
+    let e = find_from_yields_List (is_for c.args.label) _ _ c.find.result c.find.ensures.ran (YieldsList-from_slice c.as_chunks.result.0.now cc) (λ x b q k. search (rules, tests)) in
+    let f = first_for c.args.label (length c.args.list.now / 3) c.args.list.now refl in
+    c.from_residual.ensures ∙ rw c.in_err-entry.was at (ap (option_map entry_of) (e ∙ ap (find (is_for c.args.label)) c.as_chunks.ensures.front)) ∙ f
 
 pub returns : goal.returns
-returns c = sym (none_left c.args.label c.args.list.now c.loop-at.at (omega arith))
-    ∙ c.loop-at.invariant.1
+returns c =
+    let e = find_from_yields_List (is_for c.args.label) _ _ c.find.result c.find.ensures.ran (YieldsList-from_slice c.as_chunks.result.0.now cc) (λ x b q k. search (rules, tests)) in
+    let f = first_for c.args.label (length c.args.list.now / 3) c.args.list.now refl in
+    rw c.in_ok-entry.was at (ap (option_map entry_of) (e ∙ ap (find (is_for c.args.label)) c.as_chunks.ensures.front)) ∙ f

@@ -1,30 +1,17 @@
--- `label_list::entries::list_wrong` meets its contract: the entries from `at` on are wrong exactly if the list is.
+-- `label_list::entries::list_wrong` meets its contract: numbers behind the last whole entry are one that is cut short.
 -- Assumes nothing.
-use mathlib.Core.Path.{refl, sym, ◌∙◌}
-use native.Mathlib.Omega.{arith}
-use Rattle.label_list.proofs.Lists.{one_wrong, one_right, cut_short, at_end}
-use borrow.Author.Rules.{rules}
+use Rattle.std.proofs.Common.{◌<◌, ◌%◌, ◌/◌, length, rules, tests, arith, ◌≡◌, ◌∙◌, sym, ◌*◌}
+use Rattle.std.proofs.lemmas.Iterator.{YieldsList-from_slice}
+use Rattle.std.proofs.lemmas.Iterator.Search.{any_from_yields_List}
+use Rattle.label_list.proofs.Lists.{wrong, cut_short, any_wrong}
 use Rattle.label_list.proofs.entries.list_wrong.Goals as goal
 
-pub loop-at-init : goal.loop-at-init
-loop-at-init c = (search rules, refl)
+pub returns-then-not-is_empty : goal.returns-then-not-is_empty
+returns-then-not-is_empty c =
+    let h : 0 < length c.args.list.now % 3 = grind arith in rw c.if-not-is_empty.true (sym (cut_short c.args.list.now h))
 
-pub returns-then-list-at-lt-SIZE : goal.returns-then-list-at-lt-SIZE
-returns-then-list-at-lt-SIZE c = sym (cut_short c.args.list.now c.loop-at.at (omega arith) (omega arith))
-    ∙ c.loop-at.invariant.1
-
-pub returns-then-entry_wrong : goal.returns-then-entry_wrong
-returns-then-entry_wrong c = sym (one_wrong c.args.list.now
-    c.loop-at.at (omega arith) (sym c.entry_wrong.ensures ∙ c.if-entry_wrong.true))
-    ∙ c.loop-at.invariant.1
-
-pub loop-at-preserved : goal.loop-at-preserved
-loop-at-preserved c = (
-  omega arith,
-  sym (one_right c.args.list.now
-      c.loop-at.at (omega arith) (sym c.entry_wrong.ensures ∙ c.if-entry_wrong.false))
-      ∙ c.loop-at.invariant.1,
-)
-
-pub returns : goal.returns
-returns c = sym (at_end c.args.list.now c.loop-at.at (omega arith)) ∙ c.loop-at.invariant.1
+pub returns-else-not-is_empty : goal.returns-else-not-is_empty
+returns-else-not-is_empty c =
+    let h : length c.args.list.now ≡ 3 * (length c.args.list.now / 3) = grind arith in
+    any_from_yields_List wrong _ _ _ c.any.ensures.ran (YieldsList-from_slice c.as_chunks.result.0.now cc) (λ x b q k. search (rules, tests))
+    ∙ rw c.as_chunks.ensures.front (any_wrong (length c.args.list.now / 3) c.args.list.now h)

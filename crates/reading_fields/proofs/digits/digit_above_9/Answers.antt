@@ -1,25 +1,14 @@
--- `reading_fields::digits::digit_above_9` meets its contract: each branch is a digit of the definition.
+-- `reading_fields::digits::digit_above_9` meets its contract: each test is a digit of the definition.
 -- Assumes nothing.
-use Rattle.word.proofs.Branches.{branches}
+use Rattle.std.proofs.Common.{arith}
+use Rattle.std.proofs.lemmas.Bool.Decides.{nat_tests}
 use Rattle.reading_fields.specs.Digits.{digit_above9}
 use Rattle.reading_fields.proofs.digits.digit_above_9.Goals as goal
 
-pub returns-then-field-gt9 : goal.returns-then-field-gt9
-unfolding digit_above9
-returns-then-field-gt9 c = search branches
-
-pub returns-then-tens-gt9 : goal.returns-then-tens-gt9
-unfolding digit_above9
-returns-then-tens-gt9 c = search branches
-
 pub returns-then-hundreds-gt9 : goal.returns-then-hundreds-gt9
 unfolding digit_above9
-returns-then-hundreds-gt9 c = search branches
+returns-then-hundreds-gt9 c = grind (arith, nat_tests)
 
-pub returns-then-thousands-gt9 : goal.returns-then-thousands-gt9
+pub returns-else-hundreds-gt9 : goal.returns-else-hundreds-gt9
 unfolding digit_above9
-returns-then-thousands-gt9 c = search branches
-
-pub returns : goal.returns
-unfolding digit_above9
-returns c = search branches
+returns-else-hundreds-gt9 c = grind (arith, nat_tests)

@@ -1,18 +1,24 @@
--- `readings::reading::shown` meets its contract: each branch is a case of the definition.
+-- `readings::reading::shown` meets its contract: each kind is a case of the definition.
 -- Assumes nothing.
-use mir.Facts.{to_z-of_z}
-use Rattle.word.proofs.Branches.{branches}
+use Rattle.std.proofs.Common.{arith}
+use Rattle.std.proofs.lemmas.Bool.Decides.{nat_tests}
+use Rattle.std.proofs.lemmas.Int.{to_z-of_z}
+use Rattle.label_list.specs.declared.kinds.Kind.TheVariants.{Binary, Decimal}
 use Rattle.readings.specs.Reading.{shown}
 use Rattle.readings.proofs.reading.shown.Goals as goal
 
-pub returns-then-entry-eq-BINARY : goal.returns-then-entry-eq-BINARY
+pub returns-in-Ok-Binary : goal.returns-in-Ok-Binary
 unfolding shown
-returns-then-entry-eq-BINARY c = search (branches, rw (to_z-of_z c.ranges.value) at c.in_units.ensures)
+returns-in-Ok-Binary c = grind (arith, nat_tests, to_z-of_z)
 
-pub returns-then-entry-eq-DECIMAL : goal.returns-then-entry-eq-DECIMAL
+pub returns-in-Ok-Decimal : goal.returns-in-Ok-Decimal
 unfolding shown
-returns-then-entry-eq-DECIMAL c = search (branches, to_z-of_z c.ranges.value)
+returns-in-Ok-Decimal c = grind (arith, nat_tests, to_z-of_z)
 
-pub returns : goal.returns
+pub returns-in-Ok-BitField : goal.returns-in-Ok-BitField
 unfolding shown
-returns c = search (branches, c.field.ensures)
+returns-in-Ok-BitField c = grind (arith, nat_tests, to_z-of_z)
+
+pub returns-in-Err : goal.returns-in-Err
+unfolding shown
+returns-in-Err c = grind (arith, nat_tests, c.in-Err.ensures Binary, c.in-Err.ensures Decimal)

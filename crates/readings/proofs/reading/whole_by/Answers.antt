@@ -1,30 +1,27 @@
--- `readings::reading::whole_by` meets its contract: each branch is a case of the definition.
+-- `readings::reading::whole_by` meets its contract: each kind is a case of the definition.
 -- Assumes nothing.
-use mathlib.Core.Path.{◌∙◌}
-use Prim.Native.Nat.{◌<◌, ◌^◌}
-use native.Mathlib.Omega.{arith}
-use mir.Syntax.{w32}
-use mir.Val.{SFits}
-use mir.Facts.{to_z-of_z, to_z_pos}
-use Rattle.word.proofs.Branches.{branches}
-use Rattle.reading_fields.specs.Bits.{field}
+use Rattle.std.proofs.Common.{arith}
+use Rattle.std.proofs.lemmas.Bool.Decides.{nat_tests}
+use Rattle.std.proofs.lemmas.Int.{to_z-of_z, to_z_pos}
+use Rattle.std.proofs.lemmas.Result.{err_from_is_err_and}
+use Rattle.label_list.specs.declared.kinds.Kind.TheVariants.{Binary, Decimal, BitField}
 use Rattle.readings.specs.Reading.{whole_by}
 use Rattle.readings.proofs.reading.whole_by.Goals as goal
 
-pub returns-then-kind-eq-BINARY : goal.returns-then-kind-eq-BINARY
+pub returns-in_err-try_from : goal.returns-in_err-try_from
 unfolding whole_by
-returns-then-kind-eq-BINARY c = let f : SFits w32 c.twos_complement.result = record { sfits = c.twos_complement.type_inv } in
-    search (branches, to_z-of_z f ∙ c.twos_complement.ensures, c.field-field.ensures)
+returns-in_err-try_from c =
+    let p = err_from_is_err_and c.from_residual.result c.from_residual.ensures.1 in
+    rw (p.1, p.2) (grind (arith, nat_tests, c.in_err-try_from.ensures Binary, c.in_err-try_from.ensures Decimal, c.in_err-try_from.ensures BitField))
 
-pub returns-then-kind-eq-DECIMAL : goal.returns-then-kind-eq-DECIMAL
+pub returns-in-Binary : goal.returns-in-Binary
 unfolding whole_by
-returns-then-kind-eq-DECIMAL c = search (branches, c.decimal_whole.ensures)
+returns-in-Binary c = grind (arith, nat_tests, to_z-of_z)
 
-pub returns-then-kind-eq-BIT_FIELD : goal.returns-then-kind-eq-BIT_FIELD
+pub returns-in-Decimal : goal.returns-in-Decimal
 unfolding whole_by
-returns-then-kind-eq-BIT_FIELD c = let h : field c.args.word < 2 ^ 31 = omega arith in
-    search (branches, c.field-field.ensures, to_z_pos w32 h)
+returns-in-Decimal c = grind (arith, nat_tests, to_z-of_z)
 
-pub returns : goal.returns
+pub returns-in-BitField : goal.returns-in-BitField
 unfolding whole_by
-returns c = search (branches, c.refused.ensures)
+returns-in-BitField c = grind (arith, nat_tests, to_z_pos)

@@ -4,13 +4,8 @@ use lib.Ieee.Casts.{to_signed_in}
 use mir.Facts.{to_z-of_z}
 use mir.Syntax.{w64}
 use Rattle.readings.specs.Units.{scaled, count_of}
-use borrow.Author.Rules.{rules}
 use Rattle.readings.proofs.units.count.Goals as goal
-
-pub float_to_int-result : goal.float_to_int-result
-unfolding count_of
-float_to_int-result c = search rules
 
 pub returns : goal.returns
 unfolding count_of
-returns c = to_z-of_z {w = w64} (record { sfits = to_signed_in 63 (scaled c.args.units) })
+returns c = rw c.from.ensures (to_z-of_z {w = w64} (record { sfits = to_signed_in 63 (scaled c.args.units) }))

@@ -1,8 +1,0 @@
--- The digits that are left fall.
-use Rattle.console.proofs.print_part.Given as goal
-
-abbrev pub invariant-loop-left : goal.invariant-loop-left
-invariant-loop-left g l = Unit {0}
-
-abbrev pub decreases-loop-left : goal.decreases-loop-left
-decreases-loop-left g l = l.left
