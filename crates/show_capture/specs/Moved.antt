@@ -1,5 +1,5 @@
 -- What one reading leaves, and a run of them.
-use Rattle.std.specs.Prelude.{ℕ, ◌<◌, ◌≤◌, ◌≢◌}
+use Rattle.std.specs.Prelude.{ℕ, ◌<◌, ◌≤◌, IfSome}
 use Rattle.show_capture.specs.declared.Held.{Held}
 use Rattle.show_capture.specs.declared.Progress.{Progress}
 use Rattle.show_capture.specs.declared.Shown.{Shown}
@@ -11,7 +11,7 @@ number = 21
 -- a record moves the offset on, and not past the end of `size` bytes; the waiting text stays within its room
 pub record Moved (size room at : ℕ) (r : Shown) : Type 0 where
   pub fits : r.long ≤ room
-  pub moves : (r.kind ≢ 0) → (at < r.next) × (r.next ≤ size)
+  pub moves : IfSome r.next (λ next. (at < next) × (next ≤ size))
 
 -- the offset that is left lies within the bytes
 pub record Within (size room : ℕ) (r : Progress) : Type 0 where

@@ -33,22 +33,6 @@ fn flushed(out: &mut impl Write, text: &[u8], long: usize) -> usize
     long
 }
 
-// The decimal digits of a number: at most 20.
-fn decimal(shown: u64, digits: &mut [u8; 20]) -> usize
-    ensures { result ≤ 20 }
-{
-    streams::decimal(shown, digits)
-}
-
-fn put_digits(text: &mut [u8], at: usize, digits: &[u8; 20], count: usize)
-    requires count_in_bounds { at + count ≤ length text.old }
-    requires count_bound { count ≤ 20 }
-{
-    for i in 0..count {
-        text[at + i] = digits[i];
-    }
-}
-
 // Adds a number and the character behind it to the waiting text.
 fn put(out: &mut impl Write, text: &mut [u8], long: usize, shown: u64, behind: u8) -> usize
     requires number_in_bounds { number ≤ length text.old }
@@ -57,8 +41,8 @@ fn put(out: &mut impl Write, text: &mut [u8], long: usize, shown: u64, behind: u
 {
     let at = flushed(out, text, long);
     let mut digits = [0u8; 20];
-    let count = decimal(shown, &mut digits);
-    put_digits(text, at, &digits, count);
+    let count = streams::decimal(shown, &mut digits);
+    text[at..at + count].copy_from_slice(&digits[..count]);
     text[at + count] = behind;
     at + count + 1
 }
@@ -68,60 +52,40 @@ fn behind(last: bool) -> u8 {
     if last { b'\n' } else { b' ' }
 }
 
-// What one reading leaves: its kind, the next offset, and how long the waiting text is.
+// What one reading leaves: the offset behind the record, none where the reading ends, and how long the waiting text is.
 #[derive(Clone, Copy)]
 struct Shown {
-    kind: u32,
-    next: usize,
+    next: Option<usize>,
     long: usize,
 }
 
-fn wide(x: u32) -> u64 {
-    x as u64
-}
-
-// Adds the commands of an image as they fill the lent words.
-fn put_commands(
+// Adds numbers of a line; `more` says that others follow.
+fn put_numbers<T: Copy + Into<u64>>(
     out: &mut impl Write,
     text: &mut [u8],
     long: usize,
-    lent: &[u32],
-    count: usize,
-) -> usize
-    requires number_in_bounds { number ≤ length text.old }
-    requires long_in_bounds { long ≤ length text.old }
-    requires count_in_bounds { count ≤ length lent.now }
-    ensures { result ≤ length text.old }
-{
-    let mut at = long;
-    for i in 0..count {
-        at = put(out, text, at, wide(lent[i]), behind(i + 1 == count));
-    }
-    at
-}
-
-// Adds the first `count` numbers of a line; `more` says that others follow.
-fn put_numbers(
-    out: &mut impl Write,
-    text: &mut [u8],
-    long: usize,
-    numbers: &[u64; 6],
-    count: usize,
+    numbers: &[T],
     more: bool,
 ) -> usize
     requires number_in_bounds { number ≤ length text.old }
     requires long_in_bounds { long ≤ length text.old }
-    requires count_bound { count ≤ 6 }
     ensures { result ≤ length text.old }
 {
     let mut at = long;
-    for i in 0..count {
-        at = put(out, text, at, numbers[i], behind(!more && i + 1 == count));
+    for (i, shown) in numbers.iter().enumerate() {
+        at = put(
+            out,
+            text,
+            at,
+            (*shown).into(),
+            behind(!more && i + 1 == numbers.len()),
+        );
     }
     at
 }
 
-// Reads what stands at an offset and adds its line. A record moves the offset on, and not past the end.
+// Reads what stands at an offset and adds its line, with an image's commands as they fill the lent words. A record moves the offset on, and
+// not past the end.
 fn show_at(
     out: &mut impl Write,
     bytes: &[u8],
@@ -136,16 +100,22 @@ fn show_at(
     requires lent_len { length lent.old ≡ lent_words }
     ensures { Moved (length bytes.now) (length text.old) at result }
 {
-    let answer = capture::reading::read(bytes, Cursor { offset: at }, lent);
-    let kind = answer.kind;
-    let next = answer.next.offset;
-    let line = capture_lines::line_of(base, answer);
-    let count = capture::kinds::lent_of(kind);
-    let told = put_numbers(out, text, long, &line.numbers, line.count, 0 < count);
-    Shown {
-        kind,
-        next,
-        long: put_commands(out, text, told, lent, count),
+    let cursor = Cursor { offset: at };
+    let seen = capture::reading::read(bytes, cursor, lent);
+    let line = capture_lines::line_of(base, cursor, seen);
+    match seen {
+        Ok(Some(found)) => {
+            let commands = &lent[..found.kind.lent()];
+            let told = put_numbers(out, text, long, line.numbers(), !commands.is_empty());
+            Shown {
+                next: Some(found.next.offset),
+                long: put_numbers(out, text, told, commands, false),
+            }
+        }
+        Ok(None) | Err(_) => Shown {
+            next: None,
+            long: put_numbers(out, text, long, line.numbers(), false),
+        },
     }
 }
 
@@ -177,29 +147,19 @@ fn show_some(
     while last || LONGEST <= bytes.len() - at {
         let shown = show_at(out, bytes, at, base, lent, text, long);
         long = shown.long;
-        if shown.kind == 0 {
+        let Some(next) = shown.next else {
             return Progress {
                 at,
                 ended: true,
                 long,
             };
-        }
-        at = shown.next;
+        };
+        at = next;
     }
     Progress {
         at,
         ended: false,
         long,
-    }
-}
-
-// Moves the bytes from an index on to the front.
-fn keep_rest(bytes: &mut [u8], from: usize, to: usize)
-    requires from_le_to { from ≤ to }
-    requires to_in_bounds { to ≤ length bytes.old }
-{
-    for i in 0..to - from {
-        bytes[i] = bytes[from + i];
     }
 }
 
@@ -231,7 +191,7 @@ fn show_more(
     let last = count < bytes.len();
     let base = held.base;
     let shown = show_some(out, &bytes[..count], last, base, lent, text, held.long);
-    keep_rest(bytes, shown.at, count);
+    bytes.copy_within(shown.at..count, 0);
     Held {
         count: count - shown.at,
         base: base.wrapping_add(shown.at as u64),

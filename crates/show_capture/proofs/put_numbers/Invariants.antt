@@ -1,4 +1,4 @@
--- The text keeps its length, and what waits lies within it.
+-- What waits lies within the text.
 use Rattle.std.proofs.Common.{◌≡◌, ◌≤◌, length}
 use Rattle.show_capture.proofs.put_numbers.Given as goal
 
