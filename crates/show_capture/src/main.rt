@@ -6,6 +6,7 @@
 ghost use Rattle.std.specs.Prelude.{◌≡◌, ◌≤◌, length};
 ghost use Rattle.capture.specs.Format.{lent_words};
 ghost use Rattle.show_capture.specs.Moved.{Moved};
+ghost use Rattle.show_capture.specs.declared.TheConstants.{TEXT};
 
 use capture::Cursor;
 use capture::kinds::{LENT_WORDS, LONGEST};
@@ -14,7 +15,7 @@ use std::io::{Read, Write};
 // The bytes at hand: room for two of the longest records.
 const ROOM: usize = 2 * LONGEST;
 
-// The text that waits to be written.
+// The room for the text that waits.
 const TEXT: usize = 65536;
 
 // The most that a number takes, with the character behind it.
@@ -25,7 +26,7 @@ const NUMBER: usize = 21;
 struct Waiting {
     text: [u8; TEXT],
     long: usize,
-    ghost fits: { long ≤ 65536 },
+    ghost fits: { long ≤ TEXT },
 }
 
 impl Waiting {
