@@ -1,4 +1,5 @@
 pub mod Images
+pub mod Known
 pub mod Old
 pub mod Parts
 pub mod Put

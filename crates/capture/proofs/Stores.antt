@@ -1,12 +1,12 @@
 -- Lists stored one behind the other, and words read one after another.
 -- Assumes nothing.
-use Prim.Native.Nat.{ℕ, zero, suc, ◌+◌, ◌*◌, ◌-◌, ◌≤◌}
-use mathlib.Core.Path.{◌≡◌, refl, sym, ap, ◌∙◌}
+use Prim.Native.Nat.{ℕ, zero, suc, ◌+◌, ◌*◌}
+use mathlib.Core.Path.{◌≡◌, refl, ap, ◌∙◌}
 use mathlib.Core.List.{List, [], ◌∷◌, ◌++◌}
 use native.Mathlib.Omega.{arith}
 use native.Mathlib.Numerals.{add-one}
 use native.Mathlib.Nat.{zero-add}
-use lib.ListN.{length, set, replicate, length-replicate, replicate-append-replicate}
+use lib.ListN.{length, set}
 use lib.Seq.{sets}
 use Rattle.little_endian.specs.LittleEndian.{word_at}
 use Rattle.capture.specs.Format.{whole}
@@ -32,12 +32,3 @@ words_more b at (suc n) =
 pub one_more : (b l₀ l : List ℕ) (at n w : ℕ) → l ≡ sets l₀ 0 (words_at b at n) → w ≡ word_at b (at + whole * n) → set l n w ≡ sets l₀ 0 (words_at b at (n + 1))
 one_more b l₀ l at n w p q =
     rw (p, q, add-one, words_more b at n, sets-append l₀ 0 (words_at b at n) (word_at b (at + whole * n) ∷ []), length-words b at n, zero-add) refl
-
--- one stop more in the lent words
-pub stops_more : (l₀ l : List ℕ) (from i : ℕ) → from ≤ i → l ≡ sets l₀ from (replicate (i - from) 0) → set l i 0 ≡ sets l₀ from (replicate (i + 1 - from) 0)
-stops_more l₀ l from i h p =
-    let n : i + 1 - from ≡ i - from + 1 = omega arith in
-    let at : from + length (replicate {A = ℕ} (i - from) 0) ≡ i = rw (length-replicate {A = ℕ} (i - from) 0) (omega arith) in
-    ap (λ (t : List ℕ). set t i 0) p ∙ ap (λ (k : ℕ). set (sets l₀ from (replicate (i - from) 0)) k 0) (sym at)
-    ∙ sym (sets-append l₀ from (replicate (i - from) 0) (0 ∷ []))
-    ∙ ap (sets l₀ from) (replicate-append-replicate (i - from) 1 0 ∙ ap (λ (k : ℕ). replicate k 0) (sym n))

@@ -11,8 +11,7 @@ use lib.ListN.{length}
 use lib.Seq.{sets}
 use Rattle.capture.specs.Format.{Record, commands_of, known, length_of, half, bytes_of}
 use Rattle.capture.specs.Read.{channel_refusal, or_else}
-use Rattle.capture.specs.Write.{count_refusal, room_refusal, write_refusal, refusal_of, written, bytes_after}
-use Rattle.capture.specs.declared.writing.Written.{Written}
+use Rattle.capture.specs.Write.{Written, count_refusal, room_refusal, write_refusal, refusal_of, written, bytes_after}
 use Rattle.capture.proofs.Sound.{or_else_lem, of_channel}
 
 pub of_count : (kind count : ℕ) → count_refusal kind count ≡ 0 → (known kind ≡ true) × (count ≡ commands_of kind)

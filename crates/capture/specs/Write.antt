@@ -3,7 +3,12 @@ use Rattle.std.specs.Prelude.{ℕ, ◌+◌, ◌-◌, cond, List, eqb, ltb, lengt
 use Rattle.std.proofs.lemmas.List.Edits.{sets}
 use Rattle.capture.specs.Format.{Record, commands_of, known, length_of, half, bytes_of}
 use Rattle.capture.specs.Read.{channel_refusal, or_else}
-use Rattle.capture.specs.declared.writing.Written.{Written}
+use Rattle.capture.specs.declared.Cursor.{Cursor}
+
+-- what a writing answers, in numbers: a refusal's number, and the offset behind the record
+pub record Written : Type 0 where
+  pub number : ℕ
+  pub next : Cursor
 
 -- "21 .. (writing: its command count), 22 unknown kind"
 unfoldable pub count_refusal : ℕ → ℕ → ℕ

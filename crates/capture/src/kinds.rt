@@ -1,16 +1,20 @@
 // The kinds of records, and the sizes of their parts.
 ghost use Rattle.std.specs.Prelude.{◌≡◌};
 ghost use Rattle.capture.specs.Format.{commands_of, lent_of, known, length_of};
+ghost use Rattle.capture.specs.Numbers.{kind_number, Names};
 
-pub const ARRIVAL: u32 = 1;
+use crate::refusal::Refusal;
 
-// A schedule image of the old size.
-pub const OLD_IMAGE: u32 = 2;
+#[derive(Clone, Copy, Debug, PartialEq, Eq)]
+pub enum Kind {
+    Arrival,
+    // A schedule image of the old size.
+    OldImage,
+    // A schedule image.
+    Image,
+}
 
 const OLD_COMMANDS: usize = 256;
-
-// A schedule image.
-pub const IMAGE: u32 = 3;
 
 const COMMANDS: usize = 512;
 
@@ -32,53 +36,100 @@ pub const LONGEST: usize = HALF + 65535;
 // The channels of a record are 1 to this one.
 pub const CHANNELS: u32 = 12;
 
-// The refusals, in the order of their tests.
-pub const CUT: u32 = 20;
+// The number of a kind in a record's bytes.
+impl From<Kind> for u32 {
+    ghost from_gives = { λ kind number. number ≡ kind_number kind };
 
-pub const WRONG_LENGTH: u32 = 21;
+    fn from(kind: Kind) -> u32 {
+        match kind {
+            Kind::Arrival => 1,
+            Kind::OldImage => 2,
+            Kind::Image => 3,
+        }
+    }
+}
 
-pub const UNKNOWN_KIND: u32 = 22;
+// The kind that has a number.
+impl TryFrom<u32> for Kind {
+    type Error = Refusal;
 
-pub const WRONG_CHANNEL: u32 = 23;
+    ghost try_from_gives = { Names };
 
-pub const NO_ROOM: u32 = 24;
+    fn try_from(number: u32) -> Result<Kind, Refusal> {
+        match number {
+            1 => Ok(Kind::Arrival),
+            2 => Ok(Kind::OldImage),
+            3 => Ok(Kind::Image),
+            _ => Err(Refusal::UnknownKind),
+        }
+    }
+}
 
-// How many commands a kind has.
+impl Kind {
+    // How many commands a record of the kind has.
+    pub fn commands(self) -> usize
+        ensures { result ≡ commands_of (kind_number self) }
+    {
+        match self {
+            Kind::Arrival => 0,
+            Kind::OldImage => OLD_COMMANDS,
+            Kind::Image => COMMANDS,
+        }
+    }
+
+    // How many lent words reading a record of the kind fills.
+    pub fn lent(self) -> usize
+        ensures { result ≡ lent_of (kind_number self) }
+    {
+        match self {
+            Kind::Arrival => 0,
+            Kind::OldImage | Kind::Image => LENT_WORDS,
+        }
+    }
+
+    // The length of a record of the kind: the bytes of kind and body.
+    pub fn length(self) -> usize
+        ensures { result ≡ length_of (kind_number self) }
+    {
+        match self {
+            Kind::Arrival => ARRIVAL_LENGTH,
+            Kind::OldImage | Kind::Image => HALF + HALF + WHOLE * self.commands(),
+        }
+    }
+}
+
+// How many commands a number's kind has; a number of no kind has none.
 pub fn commands_of(kind: u32) -> usize
     ensures { result ≡ commands_of kind }
 {
-    if kind == OLD_IMAGE {
-        return OLD_COMMANDS;
+    match Kind::try_from(kind) {
+        Ok(kind) => kind.commands(),
+        Err(_) => 0,
     }
-    if kind == IMAGE { COMMANDS } else { 0 }
 }
 
-// How many lent words reading a kind fills.
+// How many lent words reading a number's kind fills.
 pub fn lent_of(kind: u32) -> usize
     ensures { result ≡ lent_of kind }
 {
-    if commands_of(kind) == 0 {
-        0
-    } else {
-        LENT_WORDS
+    match Kind::try_from(kind) {
+        Ok(kind) => kind.lent(),
+        Err(_) => 0,
     }
 }
 
 pub fn is_known(kind: u32) -> bool
     ensures { result ≡ known kind }
 {
-    if kind == ARRIVAL {
-        return true;
-    }
-    0 < commands_of(kind)
+    Kind::try_from(kind).is_ok()
 }
 
-// The length that a record of a known kind has: the bytes of kind and body.
+// The length of a record of a number's kind; for a number of no kind that of an empty body.
 pub fn length_of(kind: u32) -> usize
     ensures { result ≡ length_of kind }
 {
-    if kind == ARRIVAL {
-        return ARRIVAL_LENGTH;
+    match Kind::try_from(kind) {
+        Ok(kind) => kind.length(),
+        Err(_) => HALF + HALF,
     }
-    HALF + HALF + WHOLE * commands_of(kind)
 }

@@ -3,6 +3,7 @@
 
 pub mod kinds;
 pub mod reading;
+pub mod refusal;
 pub mod writing;
 
 // A place in capture bytes, by value.

@@ -1,8 +1,9 @@
 -- The numbers of a line that tells what stands at an offset of a capture.
-use Rattle.std.specs.Prelude.{◌≡◌, ℕ, ◌+◌, ◌-◌, ◌%◌, ◌^◌, cond, List, [], ◌∷◌, ◌++◌, length, replicate, ◌==◌}
+use Rattle.std.specs.Prelude.{◌≡◌, ℕ, ◌+◌, ◌%◌, ◌^◌, cond, List, [], ◌∷◌, ◌==◌}
 use Rattle.capture.specs.Format.{arrival}
-use Rattle.capture.specs.declared.reading.Answer.{Answer}
+use Rattle.capture.specs.Read.{Answer}
 use Rattle.capture_lines.specs.declared.Line.{Line}
+use Rattle.capture_lines.specs.declared.Line.TheVariants.{Last, Image, Arrival}
 
 -- an offset of the bytes at hand, which begin `base` bytes into the capture, as one of the capture
 abbrev pub offset_in : ℕ → ℕ → ℕ
@@ -16,6 +17,11 @@ line_of base a =
     (0 ∷ a.kind ∷ offset_in base a.next.offset ∷ a.channel ∷ a.word ∷ a.stamp ∷ [])
     (0 ∷ a.kind ∷ offset_in base a.next.offset ∷ a.channel ∷ []))
 
--- the list in the first `count` numbers, and zeros behind it
+-- the numbers of a line
+abbrev pub numbers_of : Line → List ℕ
+numbers_of (Last numbers) = numbers
+numbers_of (Image numbers) = numbers
+numbers_of (Arrival numbers) = numbers
+
 abbrev pub Lists : Line → List ℕ → Type 0
-Lists n l = (n.count ≡ length l) × (n.numbers ≡ l ++ replicate (6 - length l) 0)
+Lists line l = numbers_of line ≡ l

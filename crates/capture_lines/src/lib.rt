@@ -1,45 +1,60 @@
 // The numbers of a line that tells what stands at an offset of a capture.
 #![tactic(auto)]
 
-ghost use Rattle.capture_lines.specs.Lines.{line_of, Lists};
+ghost use Rattle.std.specs.Prelude.{◌≡◌};
+ghost use Rattle.capture.specs.Numbers.{answer_of};
+ghost use Rattle.capture_lines.specs.Lines.{line_of, numbers_of, Lists};
 
-use capture::kinds::ARRIVAL;
-use capture::reading::Answer;
+use capture::Cursor;
+use capture::kinds::Kind;
+use capture::reading::{Found, next};
+use capture::refusal::Refusal;
 
-// The numbers in the first `count`, and zeros behind them.
+// A line by what it tells: it has as many numbers as that needs.
 #[derive(Drop)]
-pub struct Line {
-    pub count: usize,
-    pub numbers: [u64; 6],
+pub enum Line {
+    // The end, or a bad record.
+    Last([u64; 3]),
+    // An image; its commands follow.
+    Image([u64; 4]),
+    Arrival([u64; 6]),
 }
 
-// The line for an answer; the bytes read begin `base` bytes into the capture.
-pub fn line_of(base: u64, answer: Answer) -> Line
-    ensures { Lists result (line_of base answer) }
+impl Line {
+    pub fn numbers(&self) -> &[u64]
+        ensures { result.now ≡ numbers_of self.now }
+    {
+        match self {
+            Line::Last(numbers) => numbers,
+            Line::Image(numbers) => numbers,
+            Line::Arrival(numbers) => numbers,
+        }
+    }
+}
+
+// The line for what stands at an offset of the bytes at hand, which begin `base` bytes into the capture.
+pub fn line_of(base: u64, cursor: Cursor, seen: Result<Option<Found>, Refusal>) -> Line
+    ensures { Lists result (line_of base (answer_of cursor.offset seen)) }
 {
-    let next = answer.next;
-    let offset = std::num::wrapping_add_u64(base, next.offset as u64);
-    if answer.kind == 0 {
-        return Line {
-            count: 3,
-            numbers: [answer.number as u64, 0, offset, 0, 0, 0],
-        };
-    }
-    if answer.kind == ARRIVAL {
-        return Line {
-            count: 6,
-            numbers: [
+    let offset = base.wrapping_add(next(seen, cursor).offset as u64);
+    match seen {
+        Ok(None) => Line::Last([0, 0, offset]),
+        Err(refusal) => Line::Last([u32::from(refusal) as u64, 0, offset]),
+        Ok(Some(found)) => match found.kind {
+            Kind::Arrival => Line::Arrival([
                 0,
-                answer.kind as u64,
+                u32::from(found.kind) as u64,
                 offset,
-                answer.channel as u64,
-                answer.word as u64,
-                answer.stamp as u64,
-            ],
-        };
-    }
-    Line {
-        count: 4,
-        numbers: [0, answer.kind as u64, offset, answer.channel as u64, 0, 0],
+                found.channel as u64,
+                found.word as u64,
+                found.stamp as u64,
+            ]),
+            Kind::OldImage | Kind::Image => Line::Image([
+                0,
+                u32::from(found.kind) as u64,
+                offset,
+                found.channel as u64,
+            ]),
+        },
     }
 }

@@ -10,22 +10,29 @@ use capture::Cursor;
 pub fn nqabelihu_capture_kind(bytes: &[u8], offset: usize) -> u32
     ensures { result ≡ (seen_at bytes.now offset).kind }
 {
-    capture::reading::look(bytes, Cursor { offset: offset }).kind
+    let seen = capture::reading::look(bytes, Cursor { offset });
+    match seen {
+        Ok(Some(found)) => found.kind.into(),
+        Ok(None) | Err(_) => 0,
+    }
 }
 
 // The offset behind the record at an offset; the same offset at the end and beside a refusal.
 pub fn nqabelihu_capture_offset(bytes: &[u8], offset: usize) -> usize
     ensures { result ≡ (seen_at bytes.now offset).next.offset }
 {
-    let next = capture::reading::look(bytes, Cursor { offset: offset }).next;
-    next.offset
+    let cursor = Cursor { offset };
+    capture::reading::next(capture::reading::look(bytes, cursor), cursor).offset
 }
 
 // The refusal of the record at an offset, 20 to 23; 0 for a record and at the end.
 pub fn nqabelihu_capture_refusal(bytes: &[u8], offset: usize) -> u32
     ensures { result ≡ (seen_at bytes.now offset).number }
 {
-    capture::reading::look(bytes, Cursor { offset: offset }).number
+    match capture::reading::look(bytes, Cursor { offset }) {
+        Ok(_) => 0,
+        Err(refusal) => u32::from(refusal),
+    }
 }
 
 // Reads the record at an offset: the result is the number, an image fills the first of `commands`, and the others take the
@@ -48,13 +55,23 @@ pub fn nqabelihu_capture_read(
     ensures word { word.new ≡ (read_at bytes.now offset (length commands.old)).word }
     ensures stamp { stamp.new ≡ (read_at bytes.now offset (length commands.old)).stamp }
 {
-    let read = capture::reading::read(bytes, Cursor { offset: offset }, commands);
-    *kind = read.kind;
-    *next = read.next.offset;
-    *channel = read.channel;
-    *word = read.word;
-    *stamp = read.stamp;
-    read.number
+    *kind = 0;
+    *next = offset;
+    *channel = 0;
+    *word = 0;
+    *stamp = 0;
+    match capture::reading::read(bytes, Cursor { offset }, commands) {
+        Ok(Some(found)) => {
+            *kind = found.kind.into();
+            *next = found.next.offset;
+            *channel = found.channel;
+            *word = found.word;
+            *stamp = found.stamp;
+            0
+        }
+        Ok(None) => 0,
+        Err(refusal) => refusal.into(),
+    }
 }
 
 // Writes a record at an offset: the result is the number, and `next` takes the offset behind the record, 0 beside a refusal.
@@ -72,15 +89,15 @@ pub fn nqabelihu_capture_write(
     ensures bytes { bytes.new ≡ bytes_after bytes.old offset (made kind channel word stamp commands.now) }
     ensures next { next.new ≡ (written (length bytes.old) offset (made kind channel word stamp commands.now)).next.offset }
 {
-    let written = capture::writing::write(
-        bytes,
-        Cursor { offset: offset },
-        kind,
-        channel,
-        word,
-        stamp,
-        commands,
-    );
-    *next = written.next.offset;
-    written.number
+    let cursor = Cursor { offset };
+    match capture::writing::write(bytes, cursor, kind, channel, word, stamp, commands) {
+        Ok(behind) => {
+            *next = behind.offset;
+            0
+        }
+        Err(refusal) => {
+            *next = 0;
+            refusal.into()
+        }
+    }
 }

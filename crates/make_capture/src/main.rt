@@ -42,10 +42,8 @@ fn record_at(out: &mut impl Write, mem: &mut [u32], bytes: &[u8], at: usize)
 fn record_all(out: &mut impl Write, mem: &mut [u32], bytes: &[u8])
     ensures { mem.new ≡ performed (length bytes.now / item_bytes) bytes.now mem.old }
 {
-    let mut at = 0;
-    while ITEM_BYTES <= bytes.len() - at {
-        record_at(out, mem, bytes, at);
-        at += ITEM_BYTES;
+    for index in 0..bytes.len() / ITEM_BYTES {
+        record_at(out, mem, bytes, ITEM_BYTES * index);
     }
 }
 

@@ -7,7 +7,7 @@ ghost use Rattle.sessions.specs.Sessions.{item_bytes, item_at};
 ghost use Rattle.recorder.specs.Recorded.{stamp_of, out_after, count_of};
 
 use capture::Cursor;
-use capture::kinds::ARRIVAL;
+use capture::kinds::Kind;
 use little_endian::word_at;
 
 // The op of an arrival.
@@ -41,16 +41,16 @@ pub fn record_at(mem: &mut [u32], bytes: &[u8], at: usize, out: &mut [u8]) -> us
         return 0;
     }
     let stamp = stamp(mem);
-    let none = [0u32; 1];
-    let next = capture::writing::write(
+    match capture::writing::write(
         out,
         Cursor { offset: 0 },
-        ARRIVAL,
+        Kind::Arrival.into(),
         word_at(bytes, at + 4),
         word_at(bytes, at + 8),
         stamp,
-        &none[..0],
-    )
-    .next;
-    next.offset
+        &[],
+    ) {
+        Ok(next) => next.offset,
+        Err(_) => 0,
+    }
 }

@@ -1,24 +1,6 @@
--- What one reading leaves, and a run of them.
-use Rattle.std.specs.Prelude.{ℕ, ◌<◌, ◌≤◌, ◌≢◌}
-use Rattle.show_capture.specs.declared.Held.{Held}
-use Rattle.show_capture.specs.declared.Progress.{Progress}
-use Rattle.show_capture.specs.declared.Shown.{Shown}
+-- What one reading leaves.
+use Rattle.std.specs.Prelude.{ℕ, ◌<◌, ◌≤◌, Option, IfSome}
 
--- the room that a number takes in the waiting text
-abbrev pub number : ℕ
-number = 21
-
--- a record moves the offset on, and not past the end of `size` bytes; the waiting text stays within its room
-pub record Moved (size room at : ℕ) (r : Shown) : Type 0 where
-  pub fits : r.long ≤ room
-  pub moves : (r.kind ≢ 0) → (at < r.next) × (r.next ≤ size)
-
--- the offset that is left lies within the bytes
-pub record Within (size room : ℕ) (r : Progress) : Type 0 where
-  pub inside : r.at ≤ size
-  pub fits : r.long ≤ room
-
--- what is at hand lies within the room for bytes and the room for text
-pub record Holds (size room : ℕ) (r : Held) : Type 0 where
-  pub inside : r.count ≤ size
-  pub fits : r.long ≤ room
+-- a record moves the offset on, and not past the end of `size` bytes
+abbrev pub Moved : ℕ → ℕ → Option ℕ → Type 0
+Moved size at r = IfSome r (λ next. (at < next) × (next ≤ size))

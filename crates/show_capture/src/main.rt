@@ -3,9 +3,10 @@
 // `0 0 OFFSET` at the end, or `NUMBER 0 OFFSET` at a bad record.
 #![tactic(auto)]
 
-ghost use Rattle.std.specs.Prelude.{◌≡◌, ◌+◌, ◌≤◌, length};
+ghost use Rattle.std.specs.Prelude.{◌≡◌, ◌≤◌, length};
 ghost use Rattle.capture.specs.Format.{lent_words};
-ghost use Rattle.show_capture.specs.Moved.{number, Moved, Within, Holds};
+ghost use Rattle.show_capture.specs.Moved.{Moved};
+ghost use Rattle.show_capture.specs.declared.TheConstants.{TEXT};
 
 use capture::Cursor;
 use capture::kinds::{LENT_WORDS, LONGEST};
@@ -14,53 +15,55 @@ use std::io::{Read, Write};
 // The bytes at hand: room for two of the longest records.
 const ROOM: usize = 2 * LONGEST;
 
-// The text that waits to be written.
+// The room for the text that waits.
 const TEXT: usize = 65536;
 
 // The most that a number takes, with the character behind it.
 const NUMBER: usize = 21;
 
-// Writes the waiting text where it has no room for a number, and answers how long it is then.
-fn flushed(out: &mut impl Write, text: &[u8], long: usize) -> usize
-    requires number_in_bounds { number ≤ length text.now }
-    requires long_in_bounds { long ≤ length text.now }
-    ensures { result + number ≤ length text.now }
-{
-    if text.len() - long < NUMBER {
-        streams::write_all(out, &text[..long]);
-        return 0;
+// The text that waits to be written, in the first `long` bytes.
+#[derive(Drop)]
+struct Waiting {
+    text: [u8; TEXT],
+    long: usize,
+    ghost fits: { long ≤ TEXT },
+}
+
+impl Waiting {
+    // Writes the text that waits.
+    fn write(&self, out: &mut impl Write) {
+        streams::write_all(out, &self.text[..self.long]);
     }
-    long
-}
 
-// The decimal digits of a number: at most 20.
-fn decimal(shown: u64, digits: &mut [u8; 20]) -> usize
-    ensures { result ≤ 20 }
-{
-    streams::decimal(shown, digits)
-}
-
-fn put_digits(text: &mut [u8], at: usize, digits: &[u8; 20], count: usize)
-    requires count_in_bounds { at + count ≤ length text.old }
-    requires count_bound { count ≤ 20 }
-{
-    for i in 0..count {
-        text[at + i] = digits[i];
+    // Adds a number and the character behind it, and writes what waits first where it leaves no room for them.
+    fn put(&mut self, out: &mut impl Write, shown: u64, behind: u8) {
+        let mut at = self.long;
+        if TEXT - at < NUMBER {
+            self.write(out);
+            at = 0;
+        }
+        let mut digits = [0u8; 20];
+        let count = streams::decimal(shown, &mut digits);
+        self.text[at..at + count].copy_from_slice(&digits[..count]);
+        self.text[at + count] = behind;
+        self.long = at + count + 1;
     }
-}
 
-// Adds a number and the character behind it to the waiting text.
-fn put(out: &mut impl Write, text: &mut [u8], long: usize, shown: u64, behind: u8) -> usize
-    requires number_in_bounds { number ≤ length text.old }
-    requires long_in_bounds { long ≤ length text.old }
-    ensures { result ≤ length text.old }
-{
-    let at = flushed(out, text, long);
-    let mut digits = [0u8; 20];
-    let count = decimal(shown, &mut digits);
-    put_digits(text, at, &digits, count);
-    text[at + count] = behind;
-    at + count + 1
+    // Adds numbers of a line; `more` says that others follow.
+    fn put_numbers<T: Copy + Into<u64>>(
+        &mut self,
+        out: &mut impl Write,
+        numbers: &[T],
+        more: bool,
+    ) {
+        for (i, shown) in numbers.iter().enumerate() {
+            self.put(
+                out,
+                (*shown).into(),
+                behind(!more && i + 1 == numbers.len()),
+            );
+        }
+    }
 }
 
 // The character behind a number: the line ends behind its last one.
@@ -68,93 +71,41 @@ fn behind(last: bool) -> u8 {
     if last { b'\n' } else { b' ' }
 }
 
-// What one reading leaves: its kind, the next offset, and how long the waiting text is.
-#[derive(Clone, Copy)]
-struct Shown {
-    kind: u32,
-    next: usize,
-    long: usize,
-}
-
-fn wide(x: u32) -> u64 {
-    x as u64
-}
-
-// Adds the commands of an image as they fill the lent words.
-fn put_commands(
-    out: &mut impl Write,
-    text: &mut [u8],
-    long: usize,
-    lent: &[u32],
-    count: usize,
-) -> usize
-    requires number_in_bounds { number ≤ length text.old }
-    requires long_in_bounds { long ≤ length text.old }
-    requires count_in_bounds { count ≤ length lent.now }
-    ensures { result ≤ length text.old }
-{
-    let mut at = long;
-    for i in 0..count {
-        at = put(out, text, at, wide(lent[i]), behind(i + 1 == count));
-    }
-    at
-}
-
-// Adds the first `count` numbers of a line; `more` says that others follow.
-fn put_numbers(
-    out: &mut impl Write,
-    text: &mut [u8],
-    long: usize,
-    numbers: &[u64; 6],
-    count: usize,
-    more: bool,
-) -> usize
-    requires number_in_bounds { number ≤ length text.old }
-    requires long_in_bounds { long ≤ length text.old }
-    requires count_bound { count ≤ 6 }
-    ensures { result ≤ length text.old }
-{
-    let mut at = long;
-    for i in 0..count {
-        at = put(out, text, at, numbers[i], behind(!more && i + 1 == count));
-    }
-    at
-}
-
-// Reads what stands at an offset and adds its line. A record moves the offset on, and not past the end.
+// Reads what stands at an offset, adds its line, with an image's commands as they fill the lent words, and answers the offset behind a
+// record. A record moves the offset on, and not past the end.
 fn show_at(
     out: &mut impl Write,
     bytes: &[u8],
     at: usize,
     base: u64,
     lent: &mut [u32],
-    text: &mut [u8],
-    long: usize,
-) -> Shown
-    requires number_in_bounds { number ≤ length text.old }
-    requires long_in_bounds { long ≤ length text.old }
-    requires lent_len { length lent.old ≡ lent_words }
-    ensures { Moved (length bytes.now) (length text.old) at result }
+    waiting: &mut Waiting,
+) -> Option<usize>
+    requires { length lent.old ≡ lent_words }
+    ensures { Moved (length bytes.now) at result }
 {
-    let answer = capture::reading::read(bytes, Cursor { offset: at }, lent);
-    let kind = answer.kind;
-    let next = answer.next.offset;
-    let line = capture_lines::line_of(base, answer);
-    let count = capture::kinds::lent_of(kind);
-    let told = put_numbers(out, text, long, &line.numbers, line.count, 0 < count);
-    Shown {
-        kind,
-        next,
-        long: put_commands(out, text, told, lent, count),
+    let cursor = Cursor { offset: at };
+    let seen = capture::reading::read(bytes, cursor, lent);
+    let line = capture_lines::line_of(base, cursor, seen);
+    match seen {
+        Ok(Some(found)) => {
+            let commands = &lent[..found.kind.lent()];
+            waiting.put_numbers(out, line.numbers(), !commands.is_empty());
+            waiting.put_numbers(out, commands, false);
+            Some(found.next.offset)
+        }
+        Ok(None) | Err(_) => {
+            waiting.put_numbers(out, line.numbers(), false);
+            None
+        }
     }
 }
 
-// How far a run of lines went: the offset of the bytes that are left, whether the reading ended, and how long the waiting text is.
+// How far a run of lines went: the offset of the bytes that are left, and whether the reading ended.
 #[derive(Clone, Copy)]
 struct Progress {
     at: usize,
     ended: bool,
-    long: usize,
 }
 
 // Adds lines while the longest record would lie within the bytes, and where these are the last ones to the end of the reading.
@@ -164,52 +115,27 @@ fn show_some(
     last: bool,
     base: u64,
     lent: &mut [u32],
-    text: &mut [u8],
-    waiting: usize,
+    waiting: &mut Waiting,
 ) -> Progress
-    requires number_in_bounds { number ≤ length text.old }
-    requires waiting_in_bounds { waiting ≤ length text.old }
-    requires lent_len { length lent.old ≡ lent_words }
-    ensures { Within (length bytes.now) (length text.old) result }
+    requires { length lent.old ≡ lent_words }
+    ensures { result.at ≤ length bytes.now }
 {
     let mut at = 0;
-    let mut long = waiting;
     while last || LONGEST <= bytes.len() - at {
-        let shown = show_at(out, bytes, at, base, lent, text, long);
-        long = shown.long;
-        if shown.kind == 0 {
-            return Progress {
-                at,
-                ended: true,
-                long,
-            };
-        }
-        at = shown.next;
+        let Some(next) = show_at(out, bytes, at, base, lent, waiting) else {
+            return Progress { at, ended: true };
+        };
+        at = next;
     }
-    Progress {
-        at,
-        ended: false,
-        long,
-    }
+    Progress { at, ended: false }
 }
 
-// Moves the bytes from an index on to the front.
-fn keep_rest(bytes: &mut [u8], from: usize, to: usize)
-    requires from_le_to { from ≤ to }
-    requires to_in_bounds { to ≤ length bytes.old }
-{
-    for i in 0..to - from {
-        bytes[i] = bytes[from + i];
-    }
-}
-
-// What is at hand between two reads of the input: so many bytes, which begin `base` bytes into the capture, and so much waiting text.
+// What is at hand between two reads of the input: so many bytes, which begin `base` bytes into the capture.
 #[derive(Clone, Copy)]
 struct Held {
     count: usize,
     base: u64,
     ended: bool,
-    long: usize,
 }
 
 // Reads more of the input, adds the lines of what is at hand, and keeps the rest.
@@ -219,24 +145,22 @@ fn show_more(
     bytes: &mut [u8],
     held: Held,
     lent: &mut [u32],
-    text: &mut [u8],
+    waiting: &mut Waiting,
 ) -> Held
-    requires number_in_bounds { number ≤ length text.old }
     requires lent_len { length lent.old ≡ lent_words }
-    requires holds { Holds (length bytes.old) (length text.old) held }
-    ensures { Holds (length bytes.old) (length text.old) result }
+    requires holds { held.count ≤ length bytes.old }
+    ensures { result.count ≤ length bytes.old }
 {
     let count = held.count;
     let count = count + streams::read_full(input, &mut bytes[count..]);
     let last = count < bytes.len();
     let base = held.base;
-    let shown = show_some(out, &bytes[..count], last, base, lent, text, held.long);
-    keep_rest(bytes, shown.at, count);
+    let shown = show_some(out, &bytes[..count], last, base, lent, waiting);
+    bytes.copy_within(shown.at..count, 0);
     Held {
         count: count - shown.at,
         base: base.wrapping_add(shown.at as u64),
         ended: shown.ended,
-        long: shown.long,
     }
 }
 
@@ -246,36 +170,36 @@ fn show_input(
     out: &mut impl Write,
     bytes: &mut [u8],
     lent: &mut [u32],
-    text: &mut [u8],
+    waiting: &mut Waiting,
 )
-    requires number_in_bounds { number ≤ length text.old }
-    requires lent_len { length lent.old ≡ lent_words }
+    requires { length lent.old ≡ lent_words }
 {
     let mut held = Held {
         count: 0,
         base: 0,
         ended: false,
-        long: 0,
     };
     for _ in 0..u64::MAX {
         if held.ended {
             break;
         }
-        held = show_more(input, out, bytes, held, lent, text);
+        held = show_more(input, out, bytes, held, lent, waiting);
     }
-    let long = held.long;
-    streams::write_all(out, &text[..long]);
+    waiting.write(out);
 }
 
 fn main(rt: HostRuntime) {
     let mut bytes = [0u8; ROOM];
     let mut lent = [0u32; LENT_WORDS];
-    let mut text = [0u8; TEXT];
+    let mut waiting = Waiting {
+        text: [0; TEXT],
+        long: 0,
+    };
     show_input(
         &mut rt.stdin(),
         &mut rt.stdout(),
         &mut bytes,
         &mut lent,
-        &mut text,
+        &mut waiting,
     );
 }

@@ -1,35 +1,27 @@
 -- `capture_lines::line_of` meets its contract: each branch is a case of the definition.
 -- Assumes nothing.
-use Rattle.std.proofs.Common.{refl, eq-eqb, ne_eqb}
+use Rattle.std.proofs.Common.{◌≡◌, Ok, Err, Some, None, inl, inr, refl, ap, rules}
+use Rattle.capture.specs.Numbers.{kind_number}
 use Rattle.capture_lines.specs.Lines.{line_of}
 use Rattle.capture_lines.proofs.line_of.Goals as goal
 
-pub returns-then-answer-eq0 : goal.returns-then-answer-eq0
+pub returns-in-Ok-None : goal.returns-in-Ok-None
 unfolding line_of
-returns-then-answer-eq0 c = rw (
-  c.wrapping_add_u64-offset.ensures.value,
-  eq-eqb c.args.answer.kind 0
-      c.if-answer-eq0.true,
-) (refl, refl)
+returns-in-Ok-None c = let e : c.args.seen ≡ Ok None = search rules in
+    rw (c.next.ensures, e) refl
 
-pub returns-then-answer-eq-ARRIVAL : goal.returns-then-answer-eq-ARRIVAL
+pub returns-in-Arrival : goal.returns-in-Arrival
 unfolding line_of
-returns-then-answer-eq-ARRIVAL c = rw (
-  c.wrapping_add_u64-offset.ensures.value,
-  ne_eqb
-      c.args.answer.kind 0
-      c.if-answer-eq0.false,
-  eq-eqb
-      c.args.answer.kind 1 c.if-answer-eq-ARRIVAL.true,
-)
-    (refl, refl)
+returns-in-Arrival c = let e : c.args.seen ≡ Ok (Some c.in-Ok-Some.found) = search rules in
+    rw (c.next.ensures, e, c.from.ensures, ap kind_number c.in-Arrival.is) refl
 
-pub returns : goal.returns
+pub returns-in-OldImage : goal.returns-in-OldImage
 unfolding line_of
-returns c = rw (
-  c.wrapping_add_u64-offset.ensures.value,
-  ne_eqb
-      c.args.answer.kind 0 c.if-answer-eq0.false,
-  ne_eqb
-      c.args.answer.kind 1 c.if-answer-eq-ARRIVAL.false,
-) (refl, refl)
+returns-in-OldImage c = let e : c.args.seen ≡ Ok (Some c.in-Ok-Some.found) = search rules in
+    rw (c.next.ensures, e, c.from-in-OldImage.ensures)
+    (elim c.in-OldImage.is [ inl k ↦ rw (ap kind_number k) refl | inr k ↦ rw (ap kind_number k) refl ])
+
+pub returns-in-Err : goal.returns-in-Err
+unfolding line_of
+returns-in-Err c = let e : c.args.seen ≡ Err c.in-Err.refusal = search rules in
+    rw (c.next.ensures, e, c.from-in-Err.ensures) refl

@@ -1,20 +1,10 @@
 -- `little_endian::put_word` meets its contract: its four bytes.
 -- Assumes nothing.
-use native.Mathlib.Numerals.{towards_suc}
-use native.Mathlib.Omega.{arith}
-use lib.ListN.{length-set}
-use Rattle.little_endian.specs.LittleEndian.{two, four}
+use Rattle.std.proofs.Common.{◌+◌, ◌∙◌, arith}
+use Rattle.little_endian.specs.LittleEndian.{four}
+use Rattle.little_endian.proofs.Stores.{stored}
 use Rattle.little_endian.proofs.put_word.Goals as goal
 
-pub bounds-bytes-at-2 : goal.bounds-bytes-at-2
-bounds-bytes-at-2 c = simp length-set (omega arith)
-
-pub bounds-bytes-at-3 : goal.bounds-bytes-at-3
-bounds-bytes-at-3 c = simp length-set (omega arith)
-
-pub bounds-bytes-at-4 : goal.bounds-bytes-at-4
-bounds-bytes-at-4 c = simp length-set (omega arith)
-
 pub returns : goal.returns
-unfolding two four
-returns c = simp towards_suc
+unfolding four
+returns c = stored c.args.bytes.now _ (four c.args.x) c.args.at (c.args.at + 4) (omega arith) (omega arith) (c.copy_from_slice.ensures.after ∙ c.to_le_bytes.ensures)

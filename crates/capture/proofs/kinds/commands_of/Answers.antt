@@ -1,17 +1,13 @@
--- `capture::kinds::commands_of` meets its contract: each branch is a case of the definition.
+-- `capture::kinds::commands_of` meets its contract: the kind's, or that of a number that no kind has.
 -- Assumes nothing.
+use Rattle.std.proofs.Common.{refl, ◌∙◌, ap}
 use Rattle.capture.specs.Format.{commands_of}
-use Rattle.word.proofs.Branches.{branches}
+use Rattle.capture.proofs.Known.{no_kind}
 use Rattle.capture.proofs.kinds.commands_of.Goals as goal
 
-pub returns-then-kind-eq-OLD_IMAGE : goal.returns-then-kind-eq-OLD_IMAGE
-unfolding commands_of
-returns-then-kind-eq-OLD_IMAGE c = search branches
+pub returns-in-Ok : goal.returns-in-Ok
+returns-in-Ok c = c.commands.ensures ∙ ap commands_of c.in-Ok.ensures
 
-pub returns-then-kind-eq-IMAGE : goal.returns-then-kind-eq-IMAGE
+pub returns-in-Err : goal.returns-in-Err
 unfolding commands_of
-returns-then-kind-eq-IMAGE c = search branches
-
-pub returns-else-kind-eq-IMAGE : goal.returns-else-kind-eq-IMAGE
-unfolding commands_of
-returns-else-kind-eq-IMAGE c = search branches
+returns-in-Err c = let n = no_kind c.args.kind c.in-Err.ensures.1 in rw (n.1) refl

@@ -1,13 +1,8 @@
--- `capture::kinds::is_known` meets its contract: each branch is a case of the definition.
+-- `capture::kinds::is_known` meets its contract: a number is known if a kind has it.
 -- Assumes nothing.
-use Rattle.capture.specs.Format.{commands_of, known, length_of}
-use Rattle.word.proofs.Branches.{branches}
+use Rattle.std.proofs.Common.{◌∙◌}
+use Rattle.capture.proofs.Known.{found}
 use Rattle.capture.proofs.kinds.is_known.Goals as goal
 
-pub returns-then-kind-eq-ARRIVAL : goal.returns-then-kind-eq-ARRIVAL
-unfolding commands_of known length_of
-returns-then-kind-eq-ARRIVAL c = search branches
-
 pub returns : goal.returns
-unfolding commands_of known length_of
-returns c = search (branches, c.commands_of.ensures)
+returns c = c.is_ok.ensures.value ∙ found c.args.kind c.try_from.result c.try_from.ensures

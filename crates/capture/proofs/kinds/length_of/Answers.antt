@@ -1,21 +1,13 @@
--- `capture::kinds::length_of` meets its contract: each branch is a case of the definition.
+-- `capture::kinds::length_of` meets its contract: the kind's, or that of a number that no kind has.
 -- Assumes nothing.
-use native.Mathlib.Omega.{arith}
-use Rattle.word.proofs.Branches.{branches}
-use Rattle.capture.proofs.Sizes.{few}
+use Rattle.std.proofs.Common.{refl, ◌∙◌, ap}
 use Rattle.capture.specs.Format.{length_of}
+use Rattle.capture.proofs.Known.{no_kind}
 use Rattle.capture.proofs.kinds.length_of.Goals as goal
 
-pub returns-then-kind-eq-ARRIVAL : goal.returns-then-kind-eq-ARRIVAL
+pub returns-in-Ok : goal.returns-in-Ok
+returns-in-Ok c = c.length.ensures ∙ ap length_of c.in-Ok.ensures
+
+pub returns-in-Err : goal.returns-in-Err
 unfolding length_of
-returns-then-kind-eq-ARRIVAL c = search branches
-
-pub overflow_mul-result : goal.overflow_mul-result
-overflow_mul-result c = rw c.commands_of.ensures (omega (arith, few c.args.kind))
-
-pub overflow_add-result-2 : goal.overflow_add-result-2
-overflow_add-result-2 c = rw c.commands_of.ensures (omega (arith, few c.args.kind))
-
-pub returns : goal.returns
-unfolding length_of
-returns c = search (branches, c.commands_of.ensures)
+returns-in-Err c = let n = no_kind c.args.kind c.in-Err.ensures.1 in rw (n.0, n.1) refl

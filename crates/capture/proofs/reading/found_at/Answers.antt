@@ -1,18 +1,18 @@
 -- `capture::reading::found_at` meets its contract: a record whose refusal is 0 has all its fields within the bytes, and an arrival has its own length.
 -- Assumes nothing.
-use Prim.Native.Nat.{◌+◌}
-use mathlib.Core.Path.{◌≡◌, sym, ◌∙◌}
-use native.Mathlib.Omega.{arith}
-use Rattle.word.proofs.Branches.{branches}
-use Rattle.capture.specs.Format.{half, whole}
+use Rattle.std.proofs.Common.{◌≡◌, false, eqb, refl, sym, ap, ◌∙◌, ne_eqb, arith}
+use Rattle.capture.specs.Format.{arrival, length_of}
+use Rattle.capture.specs.Numbers.{kind_number}
 use Rattle.capture.specs.Read.{length_at, kind_at, found_at}
+use Rattle.capture.proofs.Known.{pictured}
 use Rattle.capture.proofs.Sizes.{covers, arrival_long}
 use Rattle.capture.proofs.Sound.{sound}
 use Rattle.capture.proofs.reading.found_at.Goals as goal
 
-pub half_at-kind-requires : goal.half_at-kind-requires
-half_at-kind-requires c = let s = sound c.args.bytes.now c.args.at c.requires.at_value in
-    omega (arith, covers (kind_at c.args.bytes.now c.args.at))
+pub overflow_add-next-2 : goal.overflow_add-next-2
+overflow_add-next-2 c = let s = sound c.args.bytes.now c.args.at c.requires.at_value in
+    let l : c.length.result ≡ length_at c.args.bytes.now c.args.at = c.length.ensures ∙ ap length_of c.requires.kind_value ∙ sym s.long in
+    omega arith
 
 pub half_at-channel-requires : goal.half_at-channel-requires
 half_at-channel-requires c = let s = sound c.args.bytes.now c.args.at c.requires.at_value in
@@ -20,33 +20,23 @@ half_at-channel-requires c = let s = sound c.args.bytes.now c.args.at c.requires
 
 pub word_at-requires : goal.word_at-requires
 word_at-requires c = let s = sound c.args.bytes.now c.args.at c.requires.at_value in
-    omega (arith, arrival_long _ (sym c.half_at-kind.ensures ∙ c.if-kind-eq-ARRIVAL.true))
+    omega (arith, arrival_long _ (sym c.requires.kind_value ∙ ap kind_number c.in-Arrival.is))
 
-pub word_at-requires-then-kind-eq-ARRIVAL : goal.word_at-requires-then-kind-eq-ARRIVAL
-word_at-requires-then-kind-eq-ARRIVAL c = let s = sound c.args.bytes.now c.args.at
-    c.requires.at_value in
-    omega (arith, arrival_long _ (sym c.half_at-kind.ensures ∙ c.if-kind-eq-ARRIVAL.true))
+pub word_at-requires-in-Arrival : goal.word_at-requires-in-Arrival
+word_at-requires-in-Arrival c = let s = sound c.args.bytes.now c.args.at c.requires.at_value in
+    omega (arith, arrival_long _ (sym c.requires.kind_value ∙ ap kind_number c.in-Arrival.is))
 
-pub returns-then-kind-eq-ARRIVAL : goal.returns-then-kind-eq-ARRIVAL
+pub returns-in-Arrival : goal.returns-in-Arrival
 unfolding found_at
-returns-then-kind-eq-ARRIVAL c = let s = sound c.args.bytes.now c.args.at
-    c.requires.at_value in
-    let l : length_at c.args.bytes.now
-    c.args.at ≡ half + half + (whole + whole) = s.long ∙ arrival_long _ (sym
-    c.half_at-kind.ensures ∙ c.if-kind-eq-ARRIVAL.true) in
-    search (
-      branches,
-      l,
-      ← c.half_at-kind.ensures,
-      ← c.half_at-channel.ensures,
-      ← c.word_at.ensures,
-      ← c.word_at-then-kind-eq-ARRIVAL.ensures,
-    )
+returns-in-Arrival c = let s = sound c.args.bytes.now c.args.at c.requires.at_value in
+    let l : c.length.result ≡ length_at c.args.bytes.now c.args.at = c.length.ensures ∙ ap length_of c.requires.kind_value ∙ sym s.long in
+    let k : kind_at c.args.bytes.now c.args.at ≡ arrival = sym c.requires.kind_value ∙ ap kind_number c.in-Arrival.is in
+    rw (c.requires.kind_value, k, l, c.half_at-channel.ensures, c.word_at.ensures, c.word_at-in-Arrival.ensures) refl
 
-pub half_at-requires : goal.half_at-requires
-half_at-requires c = let s = sound c.args.bytes.now c.args.at c.requires.at_value in
-    omega arith
-
-pub returns : goal.returns
+pub returns-in-OldImage : goal.returns-in-OldImage
 unfolding found_at
-returns c = search (branches, ← c.half_at-kind.ensures, ← c.half_at-channel.ensures, ← c.half_at.ensures)
+returns-in-OldImage c = let s = sound c.args.bytes.now c.args.at c.requires.at_value in
+    let l : c.length.result ≡ length_at c.args.bytes.now c.args.at = c.length.ensures ∙ ap length_of c.requires.kind_value ∙ sym s.long in
+    let n : eqb (kind_at c.args.bytes.now c.args.at) arrival ≡ false =
+    ne_eqb _ _ (λ z. pictured c.args.kind c.in-OldImage.is (c.requires.kind_value ∙ z)) in
+    rw (c.requires.kind_value, n, l, c.half_at-channel.ensures) refl

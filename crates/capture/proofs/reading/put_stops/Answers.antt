@@ -1,25 +1,14 @@
--- `capture::reading::put_stops` meets its contract: each turn puts one stop more.
+-- `capture::reading::put_stops` meets its contract: stops from the index on.
 -- Assumes nothing.
-use Prim.Native.Nat.{◌-◌}
-use mathlib.Core.Path.{◌≡◌, refl}
-use native.Mathlib.Omega.{arith}
-use lib.ListN.{length-set}
+use Rattle.std.proofs.Common.{◌≡◌, ℕ, ◌-◌, length, take, drop, replicate, length-take, length-drop, arith}
+use Rattle.std.proofs.lemmas.List.{length-replicate}
 use Rattle.capture.specs.Format.{lent_words}
-use Rattle.capture.proofs.Stores.{stops_more}
-use borrow.Author.Rules.{rules}
+use Rattle.little_endian.proofs.Stores.{stored}
 use Rattle.capture.proofs.reading.put_stops.Goals as goal
 
-pub loop-i-init : goal.loop-i-init
-loop-i-init c = let e : c.args.from - c.args.from ≡ 0 = omega arith in
-    (omega arith, search rules, refl, rw e refl)
-
-pub loop-i-preserved : goal.loop-i-preserved
-loop-i-preserved c = (
-  search rules,
-  search rules,
-  simp length-set (search rules),
-  stops_more c.args.lent.now c.loop-i.lent c.args.from c.loop-i.i c.loop-i.invariant.0 c.loop-i.invariant.3,
-)
-
 pub returns : goal.returns
-returns c = let e : c.loop-i.i ≡ lent_words = omega arith in rw e at c.loop-i.invariant.3
+returns c =
+    let n : length (take (lent_words - c.args.from) (drop c.args.from c.args.lent.now)) ≡ lent_words - c.args.from = simp (length-take, length-drop) (omega arith) in
+    let h = c.fill.ensures.after (λ (y : ℕ) (e : y ≡ 0). e) in
+    stored c.args.lent.now _ (replicate (lent_words - c.args.from) 0) c.args.from lent_words (rw (length-replicate {A = ℕ} (lent_words - c.args.from) 0) (omega arith))
+    c.requires.lent_words_in_bounds (rw n at h)

@@ -21,5 +21,5 @@ pub returns : goal.returns
 unfolding length_of
 returns c = let a = c.args in
     put_arrival a.bytes.now _ _ _ a.at a.channel a.word a.stamp
-    c.put_head.ensures
+    (rw c.into.ensures at c.put_head.ensures)
     c.put_word.ensures c.put_word-2.ensures

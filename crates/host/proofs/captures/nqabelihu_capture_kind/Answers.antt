@@ -1,8 +1,0 @@
--- `host::captures::nqabelihu_capture_kind` meets its contract, from what `look` ensures.
--- Assumes nothing.
-use mathlib.Core.Path.{ap}
-use Rattle.capture.specs.declared.reading.Answer.{Answer}
-use Rattle.host.proofs.captures.nqabelihu_capture_kind.Goals as goal
-
-pub returns : goal.returns
-returns c = ap (λ (x : Answer). x.kind) c.look.ensures
