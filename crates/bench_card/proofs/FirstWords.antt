@@ -2,6 +2,7 @@
 -- Assumes nothing.
 use mathlib.Core.Path.{◌≡◌, refl, ap, ◌∙◌}
 use mathlib.Core.Bool.{cond}
+use Rattle.std.specs.Prelude.{Option, Some, None}
 use mathlib.Core.List.{List, ◌∷◌, ◌++◌}
 use Prim.Native.Nat.{ℕ, zero, suc, ◌+◌, ◌≤◌, ◌<◌}
 use native.Mathlib.Omega.{arith}
@@ -13,12 +14,11 @@ use Rattle.schedule.specs.Schedule.{stepped, step_at}
 use Rattle.schedule.specs.declared.Place.{Place}
 use Rattle.bench_card.specs.Bench.{Bench, bench, start, first_step}
 use Rattle.bench_card.specs.Asyncs.{before}
-use Rattle.bench_card.specs.Run.{outcome_at, sends, next_output, followed, dues}
+use Rattle.bench_card.specs.Run.{outcome_at, sends, next_of, next_output, followed, dues}
 use Rattle.bench_card.specs.Record.{recorded}
 use Rattle.bench_card.specs.Verdict.{verdict}
 use Rattle.bench_card.specs.Rules.{FirstWordsCount}
 use Rattle.bench_card.specs.declared.stepping.Next.{Next}
-use Rattle.bench_card.specs.declared.stepping.Next.TheVariants.{Sent, Ended}
 use Rattle.bench_card.proofs.Writes.{before_address}
 use Rattle.bench_card.proofs.Commands.{outcome_address, behind_address}
 
@@ -47,7 +47,7 @@ module _ (b : Bench) (c d : List ℕ) (n : length b.schedule ≡ commands) (m : 
   next-same zero step p h = refl
   next-same (suc left) step p h =
       rw (outcome-same step p h)
-      (ap (λ n. cond (eqb p.state running) (cond (sends (outcome_at b step p).output) (Sent (outcome_at b step p).output (outcome_at b step p).place (step + 1)) n) Ended)
+      (ap (λ n. cond (eqb p.state running) (cond (sends (outcome_at b step p).output) (next_of (outcome_at b step p).output (outcome_at b step p).place (step + 1)) n) None)
       (next-same left (step + 1) (outcome_at b step p).place (outcome_address b step p h)))
 
   dues-same : (count step : ℕ) (p : Place) → p.address ≤ last → dues longer count step p ≡ dues b count step p
@@ -56,10 +56,10 @@ module _ (b : Bench) (c d : List ℕ) (n : length b.schedule ≡ commands) (m : 
   dues-same (suc count) step p h =
       ap (λ x. followed x (dues longer count)) (next-same commands step p h) ∙ go (λ s q k. dues-same count s q k) (next_output b commands step p) refl
     where
-      go : ((s : ℕ) (q : Place) → q.address ≤ last → dues longer count s q ≡ dues b count s q) → (x : Next) → next_output b commands step p ≡ x
+      go : ((s : ℕ) (q : Place) → q.address ≤ last → dues longer count s q ≡ dues b count s q) → (x : Option Next) → next_output b commands step p ≡ x
           → followed x (dues longer count) ≡ followed x (dues b count)
-      go on (Sent o q s) e = ap (λ l. o ∷ l) (on s q (behind_address b commands step p h o q s e))
-      go on Ended e = refl
+      go on (Some n) e = ap (λ l. n.output ∷ l) (on n.step n.place (behind_address b commands step p h n.output n.place n.step e))
+      go on None e = refl
 
 pub first-words-count : FirstWordsCount
 unfolding FirstWordsCount verdict longer

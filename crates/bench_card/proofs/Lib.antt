@@ -1,4 +1,3 @@
-pub mod Lists
 pub mod Writes
 pub mod Records
 pub mod Commands

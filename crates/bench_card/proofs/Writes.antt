@@ -1,31 +1,34 @@
 -- The async writes of a list, a pair after the other.
 -- Assumes nothing.
-use mathlib.Core.Path.{◌≡◌, refl, ◌∙◌}
+use mathlib.Core.Path.{◌≡◌, refl, ap, ◌∙◌}
 use mathlib.Core.Bool.{Bool, true, false, cond}
-use mathlib.Core.List.{List, [], ◌∷◌}
-use Prim.Native.Nat.{ℕ, ◌+◌, ◌-◌, ◌≤◌, ◌<◌}
+use mathlib.Core.List.{List, [], ◌∷◌, ◌++◌}
+use Prim.Native.Nat.{ℕ, ◌<◌}
 use native.Mathlib.Omega.{arith}
 use lib.Dec.{eqb}
-use lib.ListN.{length, drop, get_or, length-drop}
+use lib.ListN.{length, get_or}
 use Rattle.schedule.specs.declared.Place.{Place}
 use Rattle.bench_card.specs.Asyncs.{written, written_for, before}
-use Rattle.bench_card.proofs.Lists.{next-two}
 
 -- one write more
-pub before-next : (step : ℕ) (l : List ℕ) (at : ℕ) (p : Place) → 2 ≤ length l - at
-    → before step (drop at l) p ≡ before step (drop (at + 2) l) (written_for step (get_or l at 0) (get_or l (at + 1) 0) p)
+before_pair : (step : ℕ) (x rest : List ℕ) (p : Place) → length x ≡ 2
+    → before step (x ++ rest) p ≡ before step rest (written_for step (get_or x 0 0) (get_or x 1 0) p)
 unfolding before
-before-next step l at p h = rw (next-two l at h)
+before_pair step [] rest p h = absurd (omega arith)
+before_pair step (s ∷ []) rest p h = absurd (omega arith)
+before_pair step (s ∷ w ∷ []) rest p h = refl
+before_pair step (s ∷ w ∷ v ∷ x) rest p h = absurd (omega arith)
 
-few : (step : ℕ) (l : List ℕ) (p : Place) → length l < 2 → before step l p ≡ p
-unfolding before
-few step [] p h = refl
-few step (s ∷ []) p h = refl
-few step (s ∷ w ∷ l) p h = absurd (omega arith)
+pub before_more : (step : ℕ) (l x rest : List ℕ) (p : Place) → l ≡ x ++ rest → length x ≡ 2
+    → before step l p ≡ before step rest (written_for step (get_or x 0 0) (get_or x 1 0) p)
+before_more step l x rest p e h = ap (λ k. before step k p) e ∙ before_pair step x rest p h
 
 -- no write left: a step with no word behind it is none
-pub before_end : (step : ℕ) (l : List ℕ) (at : ℕ) (p : Place) → length l - at < 2 → before step (drop at l) p ≡ p
-before_end step l at p h = few step (drop at l) p (simp length-drop (omega arith))
+pub before_end : (step : ℕ) (l : List ℕ) (p : Place) → length l < 2 → before step l p ≡ p
+unfolding before
+before_end step [] p h = refl
+before_end step (s ∷ []) p h = refl
+before_end step (s ∷ w ∷ l) p h = absurd (omega arith)
 
 -- what a write leaves as it was
 record Keeps (p q : Place) : Type 0 where
@@ -33,7 +36,6 @@ record Keeps (p q : Place) : Type 0 where
   address : q.address ≡ p.address
 
 written_keeps : (w : ℕ) (p : Place) → Keeps p (written w p)
-unfolding written
 written_keeps w p = go (eqb p.waiting 0)
   where
     go : (t : Bool) → Keeps p (cond t (record { state = p.state; address = p.address; waiting = 1; word = w; mark = p.mark }) p)
@@ -41,7 +43,6 @@ written_keeps w p = go (eqb p.waiting 0)
     go false = record { state = refl; address = refl }
 
 one_keeps : (step s w : ℕ) (p : Place) → Keeps p (written_for step s w p)
-unfolding written_for
 one_keeps step s w p = go (eqb s step)
   where
     go : (t : Bool) → Keeps p (cond t (written w p) p)

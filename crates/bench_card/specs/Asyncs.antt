@@ -4,12 +4,12 @@ use Rattle.std.specs.Prelude.{ℕ, cond, List, [], ◌∷◌, eqb}
 use Rattle.schedule.specs.declared.Place.{Place}
 
 -- an async word written: paper 01 refuses one "while an async word already waits", and what is "refused by the rules" is skipped
-unfoldable pub written : ℕ → Place → Place
+abbrev pub written : ℕ → Place → Place
 written w p =
     cond (eqb p.waiting 0) (record { state = p.state; address = p.address; waiting = 1; word = w; mark = p.mark }) p
 
 -- a write goes to its own step: "those for no step taken .. are skipped"
-unfoldable pub written_for : ℕ → ℕ → ℕ → Place → Place
+abbrev pub written_for : ℕ → ℕ → ℕ → Place → Place
 written_for step s w p = cond (eqb s step) (written w p) p
 
 -- "Async writes for one step go in list order"; a step with no word behind it writes nothing

@@ -1,4 +1,5 @@
 pub mod Bench
+pub mod Given
 pub mod Asyncs
 pub mod Run
 pub mod Record

@@ -1,5 +1,5 @@
 -- What the verdict means, by the rules alone: with no count of commands and no end of a record (paper 02, (xiii)).
-use Rattle.std.specs.Prelude.{ℕ, ◌+◌, ◌≤◌, ◌≡◌, true, false, List, [], ◌∷◌, ◌++◌, map, length}
+use Rattle.std.specs.Prelude.{ℕ, ◌+◌, ◌≤◌, ◌≡◌, true, false, List, [], ◌∷◌, ◌++◌, map, None, Result, Ok, Err, length}
 use Rattle.schedule.specs.Codes.{running, last, commands, messages}
 use Rattle.schedule.specs.Output.{values}
 use Rattle.schedule.specs.declared.Place.{Place}
@@ -8,9 +8,9 @@ use Rattle.bench_card.specs.Bench.{Bench, RamsWhole, bench, start, first_step}
 use Rattle.bench_card.specs.Run.{outcome_at, sends, next_output}
 use Rattle.bench_card.specs.Record.{recorded}
 use Rattle.bench_card.specs.Verdict.{most, verdict}
-use Rattle.bench_card.specs.declared.stepping.Next.TheVariants.{Ended}
 use Rattle.bench_card.specs.declared.Verdict.{Verdict}
-use Rattle.bench_card.specs.declared.Verdict.TheVariants.{Yes, Differs, Nothing, Refused}
+use Rattle.bench_card.specs.declared.Verdict.TheVariants.{Yes, Differs, Nothing}
+use Rattle.bench_card.specs.declared.Refusal.{Refusal}
 
 -- from a place before a step the rules give these outputs, and may give more: a running schedule takes a command, which sends nothing, or an output
 pub data Gives (b : Bench) : ℕ → Place → List Output → Type 0 where
@@ -52,22 +52,22 @@ module _ (b : Bench) (number step : ℕ) (p : Place) (outputs : List (List ℕ))
   RightFrom Yes = Agrees
   RightFrom (Differs place due) = DiffersAt place due
   RightFrom (Nothing place) = NothingAt place
-  RightFrom (Refused refusal) = ⊥
 
--- a verdict on a whole record, "from trigger on"
-abbrev pub Right : Bench → List (List ℕ) → Verdict → Type 0
-Right b outputs v = RightFrom b 1 first_step start outputs v
+-- a verdict on a whole record, "from trigger on"; of such a record no refusal is right
+abbrev pub Right : Bench → List (List ℕ) → Result Verdict Refusal → Type 0
+Right b outputs (Ok v) = RightFrom b 1 first_step start outputs v
+Right b outputs (Err refusal) = ⊥
 
 -- of a card that is not refused exactly the right verdict is given
 unfoldable pub JudgesRightly : Type 0
 JudgesRightly =
-    (b : Bench) (outputs : List ℕ) → RamsWhole b.schedule b.messages → length (recorded outputs) ≤ most → (v : Verdict)
+    (b : Bench) (outputs : List ℕ) → RamsWhole b.schedule b.messages → length (recorded outputs) ≤ most → (v : Result Verdict Refusal)
     → (verdict b outputs ≡ v → Right b (recorded outputs) v) × (Right b (recorded outputs) v → verdict b outputs ≡ v)
 
 -- "after 512 commands in a row that sent nothing (none ever will)"
 unfoldable pub NoneEverWill : Type 0
 NoneEverWill =
-    (b : Bench) (step : ℕ) (p : Place) → p.address ≤ last → next_output b commands step p ≡ Ended → (given : List Output) → Gives b step p given
+    (b : Bench) (step : ℕ) (p : Place) → p.address ≤ last → next_output b commands step p ≡ None → (given : List Output) → Gives b step p given
     → given ≡ []
 
 -- "RAMs below 512 and 256 words: 1": of longer ones the first 512 and 256 count

@@ -1,5 +1,5 @@
 -- What the rules give from trigger on: command after command, and of these the outputs (paper 02, (xiii)).
-use Rattle.std.specs.Prelude.{ℕ, zero, suc, ◌+◌, Bool, true, false, cond, List, [], ◌∷◌, eqb}
+use Rattle.std.specs.Prelude.{ℕ, zero, suc, ◌+◌, Bool, true, false, cond, List, [], ◌∷◌, Option, None, Some, eqb}
 use Rattle.schedule.specs.Codes.{running, commands}
 use Rattle.schedule.specs.Schedule.{step_at}
 use Rattle.schedule.specs.declared.Place.{Place}
@@ -9,7 +9,6 @@ use Rattle.schedule.specs.declared.Output.TheVariants.{Quiet, FifoWord, Message,
 use Rattle.bench_card.specs.Bench.{Bench}
 use Rattle.bench_card.specs.Asyncs.{before}
 use Rattle.bench_card.specs.declared.stepping.Next.{Next}
-use Rattle.bench_card.specs.declared.stepping.Next.TheVariants.{Sent, Ended}
 
 -- one command, the async writes for its step before it; every command is a step
 unfoldable pub outcome_at : Bench → ℕ → Place → Outcome
@@ -25,19 +24,23 @@ sends (Async word rest) = true
 sends (Reserved address) = false
 sends (NullMessage word) = true
 
+-- an output, the place behind it and the step that then comes
+abbrev pub next_of : Output → Place → ℕ → Option Next
+next_of output p step = Some (record { output = output; place = p; step = step })
+
 -- the next output, the place behind it and the step that then comes, within `left` commands: "Stepping ends .. when the schedule stops or
 -- pauses, or after 512 commands in a row that sent nothing"
-unfoldable pub next_output : Bench → ℕ → ℕ → Place → Next
-next_output b zero step p = Ended
+unfoldable pub next_output : Bench → ℕ → ℕ → Place → Option Next
+next_output b zero step p = None
 next_output b (suc left) step p =
     cond (eqb p.state running)
-    (cond (sends (outcome_at b step p).output) (Sent (outcome_at b step p).output (outcome_at b step p).place (step + 1))
-    (next_output b left (step + 1) (outcome_at b step p).place)) Ended
+    (cond (sends (outcome_at b step p).output) (next_of (outcome_at b step p).output (outcome_at b step p).place (step + 1))
+    (next_output b left (step + 1) (outcome_at b step p).place)) None
 
 -- an output before those that follow it
-abbrev pub followed : Next → (ℕ → Place → List Output) → List Output
-followed (Sent output p step) rest = output ∷ rest step p
-followed Ended rest = []
+abbrev pub followed : Option Next → (ℕ → Place → List Output) → List Output
+followed None rest = []
+followed (Some next) rest = next.output ∷ rest next.step next.place
 
 -- the outputs that the rules give from a place on, `count` at most
 unfoldable pub dues : Bench → ℕ → ℕ → Place → List Output

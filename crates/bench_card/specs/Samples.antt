@@ -1,10 +1,11 @@
 -- A small card worked by hand, and what is said of records of it.
-use Rattle.std.specs.Prelude.{ℕ, ◌≡◌, List, [], ◌∷◌, ◌++◌, replicate}
+use Rattle.std.specs.Prelude.{ℕ, ◌≡◌, List, [], ◌∷◌, ◌++◌, Ok, Err, replicate}
 use Rattle.schedule.specs.declared.Output.TheVariants.{Message, Null, Async, NullMessage}
 use Rattle.bench_card.specs.Bench.{bench}
-use Rattle.bench_card.specs.Verdict.{verdict}
+use Rattle.bench_card.specs.Verdict.{number_of, verdict}
 use Rattle.bench_card.specs.declared.Verdict.{Verdict}
-use Rattle.bench_card.specs.declared.Verdict.TheVariants.{Yes, Differs, Nothing, Refused}
+use Rattle.bench_card.specs.declared.Verdict.TheVariants.{Yes, Differs, Nothing}
+use Rattle.bench_card.specs.declared.Refusal.TheVariants.{ShortRam, TooManyOutputs}
 
 -- message 0, gap 1, message 2, an interrupt, message 0, fixed gap 3, a jump to 8, and at 8 a pause; the rest is stop
 abbrev pub schedule : List ℕ
@@ -51,11 +52,11 @@ samples =
 -- each sample is so
 abbrev pub SaidOf : List Sample → Type 0
 SaidOf [] = Unit
-SaidOf (s ∷ rest) = (verdict (bench schedule ram s.parity s.asyncs) s.outputs ≡ s.says) × SaidOf rest
+SaidOf (s ∷ rest) = (verdict (bench schedule ram s.parity s.asyncs) s.outputs ≡ Ok s.says) × SaidOf rest
 
--- RAMs that are too short, before too many outputs
+-- RAMs that are too short, before too many outputs, and the numbers of these refusals
 abbrev pub RefusedSo : Type 0
 RefusedSo =
-    (verdict (bench (replicate 511 0) ram 0 []) (replicate 8193 0) ≡ Refused 1)
-    × (verdict (bench schedule (replicate 255 0) 0 []) [] ≡ Refused 1)
-    × (verdict (bench schedule ram 0 []) (replicate 8193 0) ≡ Refused 70)
+    (verdict (bench (replicate 511 0) ram 0 []) (replicate 8193 0) ≡ Err ShortRam)
+    × (verdict (bench schedule (replicate 255 0) 0 []) [] ≡ Err ShortRam)
+    × (verdict (bench schedule ram 0 []) (replicate 8193 0) ≡ Err TooManyOutputs) × (number_of ShortRam ≡ 1) × (number_of TooManyOutputs ≡ 70)

@@ -10,11 +10,9 @@ fn written(word: u32, place: Place) -> Place
 {
     if place.waiting == 0 {
         return Place {
-            state: place.state,
-            address: place.address,
             waiting: 1,
             word,
-            mark: place.mark,
+            ..place
         };
     }
     place
@@ -35,10 +33,8 @@ pub fn before(step: u32, asyncs: &[u32], place: Place) -> Place
     ensures { result ≡ before step asyncs.now place }
 {
     let mut place = place;
-    let mut at = 0;
-    while 2 <= asyncs.len() - at {
-        place = written_for(step, asyncs[at], asyncs[at + 1], place);
-        at += 2;
+    for write in asyncs.chunks_exact(2) {
+        place = written_for(step, write[0], write[1], place);
     }
     place
 }

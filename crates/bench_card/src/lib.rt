@@ -5,22 +5,19 @@
 // end are an output in none of the forms. Of the RAMs the first 512 and 256 words count.
 #![tactic(auto)]
 
-ghost use Rattle.std.specs.Prelude.{◌≡◌, ◌*◌, ◌≤◌, length, take, drop};
+ghost use Rattle.std.specs.Prelude.{◌≡◌, ◌*◌, ◌≤◌, length};
 ghost use Rattle.schedule.specs.Output.{values};
-ghost use Rattle.bench_card.specs.Bench.{RamsWhole, bench};
+ghost use Rattle.bench_card.specs.Bench.{bench};
+ghost use Rattle.bench_card.specs.Given.{given};
 ghost use Rattle.bench_card.specs.Record.{numbers, recorded, same};
-ghost use Rattle.bench_card.specs.Verdict.{most, verdict_on, verdict};
+ghost use Rattle.bench_card.specs.Verdict.{most, number_of, verdict_on, verdict};
 
+use bench::Bench;
 use schedule::{COMMANDS, MESSAGES, Output, Place, RUNNING};
-use stepping::Next;
 
 mod asyncs;
+mod bench;
 mod stepping;
-
-// The refusals: a RAM that is too short; more outputs than a card may have.
-pub const SHORT: u32 = 1;
-
-pub const TOO_MANY: u32 = 70;
 
 // The outputs that a card has at most.
 pub const MOST: usize = 2048;
@@ -30,14 +27,28 @@ pub const NUMBERS: usize = 4;
 
 pub const MOST_NUMBERS: usize = MOST * NUMBERS;
 
-// What is said of a card: the rules give its record; the output at a place, from 1, differs, with what was due there; it differs with nothing due;
-// or the card is refused.
-#[derive(Drop)]
+// What is said of a card: the rules give its record; the output at a place, from 1, differs, with what was due there; or it differs with
+// nothing due.
+#[derive(Clone, Copy)]
 pub enum Verdict {
     Yes,
     Differs(u32, Output),
     Nothing(u32),
-    Refused(u32),
+}
+
+// Why a card is refused, with the refusal's number: a RAM is too short; it has more outputs than a card may have.
+#[derive(Clone, Copy, PartialEq, Eq)]
+pub enum Refusal {
+    ShortRam = 1,
+    TooManyOutputs = 70,
+}
+
+impl From<Refusal> for u32 {
+    ghost from_gives = { λ refusal number. number ≡ number_of refusal };
+
+    fn from(refusal: Refusal) -> u32 {
+        refusal as u32
+    }
 }
 
 // Command 0, just triggered, with no word sent before and no async word waiting.
@@ -53,74 +64,61 @@ fn start() -> Place
     }
 }
 
-// Whether the output recorded at an index is the one that was due.
-fn agrees(outputs: &[u32], at: usize, due: Output) -> bool
-    requires { at ≤ length outputs.now }
-    ensures { result ≡ same (take numbers (drop at outputs.now)) (values due) }
+// Whether a recorded output is the one that was due.
+#[tactic(auto, using(crate::proofs::Records::same_is))]
+fn agrees(recorded: &[u32], due: Output) -> bool
+    ensures { result ≡ same recorded.now (values due) }
 {
-    if outputs.len() - at < NUMBERS {
-        return false;
-    }
-    let numbers = schedule::values(due);
-    if outputs[at] != numbers[0] {
-        return false;
-    }
-    if outputs[at + 1] != numbers[1] {
-        return false;
-    }
-    if outputs[at + 2] != numbers[2] {
-        return false;
-    }
-    if outputs[at + 3] != numbers[3] {
-        return false;
-    }
-    true
+    recorded == schedule::values(due).as_slice()
 }
 
 // The recorded outputs beside those that the rules give, one after the other.
-fn compared(schedule: &[u32], ram: &[u32], parity: u32, asyncs: &[u32], outputs: &[u32]) -> Verdict
-    requires { (RamsWhole schedule.now ram.now) × (length outputs.now ≤ most * numbers) }
-    ensures { result ≡ verdict_on (bench schedule.now ram.now parity asyncs.now) (recorded outputs.now) }
+fn compared(bench: &Bench, outputs: &[u32]) -> Verdict
+    requires { length outputs.now ≤ most * numbers }
+    ensures { result ≡ verdict_on (given bench.now) (recorded outputs.now) }
 {
     let mut place = start();
     let mut step = 1;
     let mut number = 1;
-    let mut at = 0;
-    while at < outputs.len() {
-        let Next::Sent(due, after, behind) = stepping::next_output(
-            schedule, ram, parity, asyncs, step, place,
-        ) else {
+    for recorded in outputs.chunks(NUMBERS) {
+        let Some(next) = bench.next_output(step, place) else {
             return Verdict::Nothing(number);
         };
-        if !agrees(outputs, at, due) {
-            return Verdict::Differs(number, due);
+        if !agrees(recorded, next.output) {
+            return Verdict::Differs(number, next.output);
         }
-        place = after;
-        step = behind;
+        place = next.place;
+        step = next.step;
         number += 1;
-        at += NUMBERS;
     }
     Verdict::Yes
 }
 
 // Judges a card.
+#[tactic(auto, using(word::proofs::Branches::branches), unfolding(crate::specs::Verdict::verdict))]
 pub fn judge(
     schedule: &[u32],
     messages: &[u32],
     parity: u32,
     asyncs: &[u32],
     outputs: &[u32],
-) -> Verdict
+) -> Result<Verdict, Refusal>
     ensures { result ≡ verdict (bench schedule.now messages.now parity asyncs.now) outputs.now }
 {
     if schedule.len() < COMMANDS as usize {
-        return Verdict::Refused(SHORT);
+        return Err(Refusal::ShortRam);
     }
     if messages.len() < MESSAGES as usize {
-        return Verdict::Refused(SHORT);
+        return Err(Refusal::ShortRam);
     }
     if MOST_NUMBERS < outputs.len() {
-        return Verdict::Refused(TOO_MANY);
+        return Err(Refusal::TooManyOutputs);
     }
-    compared(schedule, messages, parity, asyncs, outputs)
+    let bench = Bench {
+        schedule,
+        messages,
+        parity,
+        asyncs,
+    };
+    Ok(compared(&bench, outputs))
 }

@@ -1,9 +1,8 @@
 // The fields of a line, and what they say.
 ghost use Rattle.std.specs.Prelude.{◌≡◌};
-ghost use Rattle.card_lines.specs.Fields.{ended_of, reading_of, named, begun, reading_byte, takes_word, as_word, as_number, value_of, more, is_name, valued, unvalued, field_ended, closed, taken, entry_of, said};
+ghost use Rattle.card_lines.specs.Fields.{named, begun, reading_byte, takes_word, as_word, value_of, more, is_name, valued, unvalued, field_ended, closed, taken, entry_of, said};
 
 use crate::decimal;
-use crate::decimal::Decimal;
 use text::line::{Asked, Line};
 use text::{bytes, line};
 
@@ -34,30 +33,22 @@ pub struct Ended {
     pub d: u32,
 }
 
-// The field that is being read, as a word and as a number; `inside` where it has begun.
+// The field that is being read, as a word and as a number.
 #[derive(Clone, Copy)]
 pub struct Reading {
-    pub inside: bool,
     pub word: Line,
-    pub number: Decimal,
+    pub number: Option<u32>,
 }
 
-// A line as far as it was read.
+// A line as far as it was read; between two fields none is being read.
 #[derive(Clone, Copy)]
 pub struct Fields {
     pub ended: Ended,
-    pub reading: Reading,
-}
-
-// What a field reads as.
-#[derive(Drop)]
-pub enum Value {
-    Number(u32),
-    NoNumber,
+    pub reading: Option<Reading>,
 }
 
 // What a line says: nothing; a word, or the parity; an async word with its step; an output; or none of these.
-#[derive(Drop)]
+#[derive(Clone, Copy)]
 pub enum Entry {
     Blank,
     Word(u32),
@@ -66,43 +57,23 @@ pub enum Entry {
     NoEntry,
 }
 
-fn ended_of(count: u32, name: u64, wrong: bool, a: u32, b: u32, c: u32, d: u32) -> Ended
-    ensures { result ≡ ended_of count name wrong a b c d }
-{
-    Ended {
-        count,
-        name,
-        wrong,
-        a,
-        b,
-        c,
-        d,
-    }
-}
-
-fn reading_of(inside: bool, word: Line, number: Decimal) -> Reading
-    ensures { result ≡ reading_of inside word number }
-{
-    Reading {
-        inside,
-        word,
-        number,
-    }
-}
-
 // The start of a line.
 pub fn begun() -> Fields
     ensures { result ≡ begun }
 {
-    let ended = ended_of(0, NO_NAME, false, 0, 0, 0, 0);
-    let reading = reading_of(false, line::begun(), decimal::none());
-    Fields { ended, reading }
-}
-
-fn wide(byte: u8) -> u64
-    ensures { result ≡ byte }
-{
-    byte as u64
+    let ended = Ended {
+        count: 0,
+        name: NO_NAME,
+        wrong: false,
+        a: 0,
+        b: 0,
+        c: 0,
+        d: 0,
+    };
+    Fields {
+        ended,
+        reading: None,
+    }
 }
 
 // The name with one more byte.
@@ -110,7 +81,7 @@ fn named(name: u64, byte: u8) -> u64
     ensures { result ≡ named name byte }
 {
     if name < LONG {
-        return name * 256 + wide(byte);
+        return name * 256 + u64::from(byte);
     }
     TOO_LONG
 }
@@ -120,75 +91,52 @@ fn name_byte(ended: Ended, byte: u8) -> Ended
     ensures { result ≡ Rattle.card_lines.specs.Fields.name_byte ended byte }
 {
     if ended.count == 0 {
-        return ended_of(
-            0,
-            named(ended.name, byte),
-            ended.wrong,
-            ended.a,
-            ended.b,
-            ended.c,
-            ended.d,
-        );
+        return Ended {
+            name: named(ended.name, byte),
+            ..ended
+        };
     }
     ended
 }
 
-// The field that is read with one more byte.
-fn reading_byte(reading: Reading, byte: u8) -> Reading
+// The field that is read, or the next one, with one more byte.
+fn reading_byte(reading: Option<Reading>, byte: u8) -> Reading
     ensures { result ≡ reading_byte reading byte }
 {
-    let word = reading.word;
-    let number = reading.number;
-    reading_of(
-        true,
-        line::taken(word, byte),
-        decimal::decimal_byte(number, byte),
-    )
+    let before = reading.unwrap_or(Reading {
+        word: line::begun(),
+        number: Some(0),
+    });
+    Reading {
+        word: line::taken(before.word, byte),
+        number: decimal::decimal_byte(before.number, byte),
+    }
 }
 
 // Whether the next field of a line is a word in hexadecimal: the first, and an async word behind its step.
 fn takes_word(ended: Ended) -> bool
     ensures { result ≡ takes_word ended }
 {
-    if ended.count == 0 {
-        return true;
-    }
-    if ended.count == 2 {
-        return ended.name == ASYNC;
-    }
-    false
+    ended.count == 0 || (ended.count == 2 && ended.name == ASYNC)
 }
 
-fn as_word(word: Line) -> Value
+fn as_word(word: Line) -> Option<u32>
     ensures { result ≡ as_word word }
 {
-    let asked = line::asked_by(word);
-    match asked {
-        Asked::Read(value) => Value::Number(value),
-        Asked::Encode(_, _, _) => Value::NoNumber,
-        Asked::Nothing => Value::NoNumber,
+    match line::asked_by(word) {
+        Some(Asked::Read(value)) => Some(value),
+        _ => None,
     }
 }
 
-fn as_number(number: Decimal) -> Value
-    ensures { result ≡ as_number number }
-{
-    if number.wrong {
-        return Value::NoNumber;
-    }
-    Value::Number(number.value)
-}
-
-// What the field that is read reads as.
-fn value_of(ended: Ended, reading: Reading) -> Value
+// The number that the field that is read says, if it says one.
+fn value_of(ended: Ended, reading: Reading) -> Option<u32>
     ensures { result ≡ value_of ended reading }
 {
-    let word = reading.word;
-    let number = reading.number;
     if takes_word(ended) {
-        return as_word(word);
+        return as_word(reading.word);
     }
-    as_number(number)
+    reading.number
 }
 
 // One more field.
@@ -205,82 +153,77 @@ fn more(count: u32) -> u32
 fn is_name(name: u64) -> bool
     ensures { result ≡ is_name name }
 {
-    if name == ASYNC {
-        return true;
-    }
-    name == OUT
+    name == ASYNC || name == OUT
 }
 
 // The fields with a number behind them.
 fn valued(ended: Ended, value: u32) -> Ended
     ensures { result ≡ valued ended value }
 {
-    ended_of(
-        more(ended.count),
-        ended.name,
-        ended.wrong,
-        ended.b,
-        ended.c,
-        ended.d,
-        value,
-    )
+    Ended {
+        count: more(ended.count),
+        a: ended.b,
+        b: ended.c,
+        c: ended.d,
+        d: value,
+        ..ended
+    }
 }
 
 // The fields with one behind them that is no number: a name may stand first.
 fn unvalued(ended: Ended) -> Ended
     ensures { result ≡ unvalued ended }
 {
-    if ended.count == 0 {
-        return ended_of(1, ended.name, !is_name(ended.name), 0, 0, 0, 0);
+    Ended {
+        count: more(ended.count),
+        wrong: ended.count != 0 || !is_name(ended.name),
+        a: 0,
+        b: 0,
+        c: 0,
+        d: 0,
+        ..ended
     }
-    ended_of(more(ended.count), ended.name, true, 0, 0, 0, 0)
 }
 
 // The field that is read ends.
 fn field_ended(ended: Ended, reading: Reading) -> Ended
     ensures { result ≡ field_ended ended reading }
 {
-    let value = value_of(ended, reading);
-    match value {
-        Value::Number(number) => valued(ended, number),
-        Value::NoNumber => unvalued(ended),
+    match value_of(ended, reading) {
+        Some(number) => valued(ended, number),
+        None => unvalued(ended),
     }
 }
 
 // The fields at a blank or at the end of the line.
+#[tactic(auto, unfolding(crate::specs::Fields::closed))]
 fn closed(at: Fields) -> Ended
     ensures { result ≡ closed at }
 {
-    let ended = at.ended;
-    let reading = at.reading;
-    if reading.inside {
-        return field_ended(ended, reading);
+    match at.reading {
+        Some(reading) => field_ended(at.ended, reading),
+        None => at.ended,
     }
-    ended
 }
 
 // The line with one byte more.
+#[tactic(auto, using(word::proofs::Branches::branches), unfolding(crate::specs::Fields::taken))]
 pub fn taken(at: Fields, byte: u8) -> Fields
     ensures { result ≡ taken at byte }
 {
     if bytes::is_blank(byte) {
-        let fields = closed(at);
-        let none = reading_of(false, line::begun(), decimal::none());
         return Fields {
-            ended: fields,
-            reading: none,
+            ended: closed(at),
+            reading: None,
         };
     }
-    let before = at.ended;
-    let reading = at.reading;
-    let fields = name_byte(before, byte);
-    let grown = reading_byte(reading, byte);
     Fields {
-        ended: fields,
-        reading: grown,
+        ended: name_byte(at.ended, byte),
+        reading: Some(reading_byte(at.reading, byte)),
     }
 }
 
+#[tactic(auto, using(word::proofs::Branches::branches), unfolding(crate::specs::Fields::entry_of))]
 fn entry_of(fields: Ended) -> Entry
     ensures { result ≡ entry_of fields }
 {

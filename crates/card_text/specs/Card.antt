@@ -1,5 +1,5 @@
 -- What the lines of a card add up to: "the parity (0 or 1), then the 768 lines, then lines `async STEP WORD` and `out FORM X Y Z`".
-use Rattle.std.specs.Prelude.{ℕ, ◌+◌, ◌-◌, ◌*◌, Bool, true, false, cond, List, length, nat_le, nat_lt, slice_set}
+use Rattle.std.specs.Prelude.{ℕ, ◌+◌, ◌-◌, ◌*◌, Bool, true, false, cond, List, length, nat_le, nat_lt, slice_set, Option, None, Some, is_some}
 use Rattle.schedule.specs.Codes.{commands, messages}
 use Rattle.bench_card.specs.Record.{numbers}
 use Rattle.bench_card.specs.Verdict.{most}
@@ -19,29 +19,26 @@ async_room = 2 * 4096
 abbrev pub output_room : ℕ
 output_room = most * numbers + numbers
 
-abbrev pub no_parity : ℕ
-no_parity = 2
+-- 0 and 1
+abbrev pub parities : ℕ
+parities = 2
 
-abbrev pub card_of : ℕ → ℕ → ℕ → ℕ → Bool → Fault → Card
+abbrev pub card_of : Option ℕ → ℕ → ℕ → ℕ → Bool → Option Fault → Card
 card_of parity words asyncs outputs listed f =
     record { parity = parity; words = words; asyncs = asyncs; outputs = outputs; listed = listed; fault = f }
 
 abbrev pub begun : Card
-begun = card_of no_parity 0 0 0 false fault.Fine
+begun = card_of None 0 0 0 false None
 
-abbrev pub is_faulty : Fault → Bool
-is_faulty fault.Fine = false
-is_faulty fault.NoParity = true
-is_faulty fault.NoWord = true
-is_faulty fault.NoEntry = true
-is_faulty fault.NoRoom = true
+abbrev pub is_faulty : Option Fault → Bool
+is_faulty f = is_some f
 
 abbrev pub faulty : Card → Fault → Card
-faulty c f = card_of c.parity c.words c.asyncs c.outputs c.listed f
+faulty c f = card_of c.parity c.words c.asyncs c.outputs c.listed (Some f)
 
 -- the parity is 0 or 1
-unfoldable pub with_parity : Card → ℕ → Card
-with_parity c w = cond (nat_lt w no_parity) (card_of w c.words c.asyncs c.outputs c.listed fault.Fine) (faulty c fault.NoParity)
+abbrev pub with_parity : Card → ℕ → Card
+with_parity c w = cond (nat_lt w parities) (card_of (Some w) c.words c.asyncs c.outputs c.listed None) (faulty c fault.NoParity)
 
 abbrev pub parity_taken : Card → Entry → Card
 parity_taken c Blank = c
@@ -54,7 +51,7 @@ parity_taken c NoEntry = faulty c fault.NoParity
 unfoldable pub word_card : ℕ → Card → Card
 word_card room c =
     cond c.listed (faulty c fault.NoEntry)
-    (cond (nat_lt c.words room) (card_of c.parity (c.words + 1) c.asyncs c.outputs false fault.Fine) (faulty c fault.NoEntry))
+    (cond (nat_lt c.words room) (card_of c.parity (c.words + 1) c.asyncs c.outputs false None) (faulty c fault.NoEntry))
 
 unfoldable pub word_list : List ℕ → Card → ℕ → List ℕ
 word_list l c w = cond c.listed l (cond (nat_lt c.words (length l)) (slice_set l c.words w) l)
@@ -63,7 +60,7 @@ word_list l c w = cond c.listed l (cond (nat_lt c.words (length l)) (slice_set l
 unfoldable pub async_card : ℕ → Card → Card
 async_card room c =
     cond (nat_le room c.asyncs) (faulty c fault.NoRoom)
-    (cond (nat_lt (room - c.asyncs) 2) (faulty c fault.NoRoom) (card_of c.parity c.words (c.asyncs + 2) c.outputs true fault.Fine))
+    (cond (nat_lt (room - c.asyncs) 2) (faulty c fault.NoRoom) (card_of c.parity c.words (c.asyncs + 2) c.outputs true None))
 
 unfoldable pub async_list : List ℕ → Card → ℕ → ℕ → List ℕ
 async_list l c step w =
@@ -72,9 +69,9 @@ async_list l c step w =
 -- an output, four numbers; one for which there is no room is one too many
 unfoldable pub output_card : ℕ → Card → Card
 output_card room c =
-    cond (nat_le room c.outputs) (card_of c.parity c.words c.asyncs c.outputs true fault.Fine)
-    (cond (nat_lt (room - c.outputs) 4) (card_of c.parity c.words c.asyncs c.outputs true fault.Fine)
-    (card_of c.parity c.words c.asyncs (c.outputs + 4) true fault.Fine))
+    cond (nat_le room c.outputs) (card_of c.parity c.words c.asyncs c.outputs true None)
+    (cond (nat_lt (room - c.outputs) 4) (card_of c.parity c.words c.asyncs c.outputs true None)
+    (card_of c.parity c.words c.asyncs (c.outputs + 4) true None))
 
 unfoldable pub output_list : List ℕ → Card → ℕ → ℕ → ℕ → ℕ → List ℕ
 output_list l c form x y z =
@@ -82,5 +79,5 @@ output_list l c form x y z =
     (cond (nat_lt (length l - c.outputs) 4) l (slice_set (slice_set (slice_set (slice_set l c.outputs form) (c.outputs + 1) x) (c.outputs + 2) y) (c.outputs + 3) z))
 
 -- a line that says none of these
-unfoldable pub wrong_line : Card → ℕ → Card
+abbrev pub wrong_line : Card → ℕ → Card
 wrong_line c room = cond c.listed (faulty c fault.NoEntry) (cond (nat_lt c.words room) (faulty c fault.NoWord) (faulty c fault.NoEntry))

@@ -1,10 +1,10 @@
 -- The text of a card, a byte after the other, with the lists that it fills.
-use Rattle.std.specs.Prelude.{◌≡◌, ℕ, ◌+◌, ◌%◌, ◌^◌, cond, List, [], ◌∷◌, length, ◌==◌}
+use Rattle.std.specs.Prelude.{◌≡◌, ℕ, ◌+◌, ◌%◌, ◌^◌, cond, List, [], ◌∷◌, length, is_some, ◌==◌}
 use Rattle.card_lines.specs.Fields as fields
 use Rattle.card_lines.specs.declared.fields.Entry.{Entry}
 use Rattle.card_lines.specs.declared.fields.Entry.TheVariants.{Blank, Word, Async, Out, NoEntry}
 use Rattle.card_text.specs.Card as card
-use Rattle.card_text.specs.Card.{no_parity, is_faulty, faulty, parity_taken, word_card, word_list, async_card, async_list, output_card, output_list, wrong_line}
+use Rattle.card_text.specs.Card.{is_faulty, faulty, parity_taken, word_card, word_list, async_card, async_list, output_card, output_list, wrong_line}
 use Rattle.card_text.specs.declared.card.Card.{Card}
 use Rattle.card_text.specs.declared.faults.Fault.TheVariants as fault
 use Rattle.card_text.specs.declared.reading.Progress.{Progress}
@@ -36,12 +36,12 @@ entry_taken s NoEntry = state_of (wrong_line s.card (length s.words)) s.words s.
 -- the first line has the parity
 unfoldable pub line_taken : State → Entry → State
 line_taken s e =
-    cond (s.card.parity == no_parity) (state_of (parity_taken s.card e) s.words s.asyncs s.outputs) (entry_taken s e)
+    cond (is_some s.card.parity) (entry_taken s e) (state_of (parity_taken s.card e) s.words s.asyncs s.outputs)
 
 abbrev pub begun : Progress
 begun = record { fields = fields.begun; card = card.begun; line = 1 }
 
-unfoldable pub line_after : Card → ℕ → ℕ
+abbrev pub line_after : Card → ℕ → ℕ
 line_after c line = cond (is_faulty c.fault) line ((line + 1) % 2 ^ 64)
 
 -- the same with the line that is being read
@@ -85,7 +85,7 @@ text_taken t (b ∷ rest) = text_taken (byte_taken t b) rest
 -- a text with no parity is wrong at its last line
 unfoldable pub with_parity : Progress → ℕ → Progress
 with_parity p line =
-    cond (p.card.parity == no_parity) (record { fields = p.fields; card = faulty p.card fault.NoParity; line = line }) p
+    cond (is_some p.card.parity) p (record { fields = p.fields; card = faulty p.card fault.NoParity; line = line })
 
 -- the end of the text, which ends its last line
 unfoldable pub finished : Text → Text

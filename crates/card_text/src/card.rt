@@ -1,61 +1,36 @@
 // What the lines of a card add up to.
 ghost use Rattle.std.specs.Prelude.{◌≡◌, length};
-ghost use Rattle.card_text.specs.Card.{card_of, begun, is_faulty, faulty, with_parity, parity_taken, word_card, word_list, async_card, async_list, output_card, output_list, wrong_line};
+ghost use Rattle.card_text.specs.Card.{begun, faulty, with_parity, parity_taken, word_card, word_list, async_card, async_list, output_card, output_list, wrong_line};
 
 use crate::faults::Fault;
 use card_lines::fields::Entry;
 
-// What stands for a parity that was not read yet.
-pub const NO_PARITY: u32 = 2;
+// The parities: 0, off, and 1, on.
+const PARITIES: u32 = 2;
 
-// The parity; how many numbers are stored of words, async words and outputs; whether an async word or an output was read; and what is wrong.
+// The parity, once it was read; how many numbers are stored of words, async words and outputs; whether an async word or an output was read; and
+// what is wrong, if anything.
 #[derive(Clone, Copy)]
 pub struct Card {
-    pub parity: u32,
+    pub parity: Option<u32>,
     pub words: usize,
     pub asyncs: usize,
     pub outputs: usize,
     pub listed: bool,
-    pub fault: Fault,
-}
-
-fn card_of(
-    parity: u32,
-    words: usize,
-    asyncs: usize,
-    outputs: usize,
-    listed: bool,
-    fault: Fault,
-) -> Card
-    ensures { result ≡ card_of parity words asyncs outputs listed fault }
-{
-    Card {
-        parity,
-        words,
-        asyncs,
-        outputs,
-        listed,
-        fault,
-    }
+    pub fault: Option<Fault>,
 }
 
 // Nothing read yet.
 pub fn begun() -> Card
     ensures { result ≡ begun }
 {
-    card_of(NO_PARITY, 0, 0, 0, false, Fault::Fine)
-}
-
-// Whether something is wrong.
-pub fn is_faulty(fault: Fault) -> bool
-    ensures { result ≡ is_faulty fault }
-{
-    match fault {
-        Fault::Fine => false,
-        Fault::NoParity => true,
-        Fault::NoWord => true,
-        Fault::NoEntry => true,
-        Fault::NoRoom => true,
+    Card {
+        parity: None,
+        words: 0,
+        asyncs: 0,
+        outputs: 0,
+        listed: false,
+        fault: None,
     }
 }
 
@@ -63,29 +38,22 @@ pub fn is_faulty(fault: Fault) -> bool
 pub fn faulty(card: Card, fault: Fault) -> Card
     ensures { result ≡ faulty card fault }
 {
-    card_of(
-        card.parity,
-        card.words,
-        card.asyncs,
-        card.outputs,
-        card.listed,
-        fault,
-    )
+    Card {
+        fault: Some(fault),
+        ..card
+    }
 }
 
 // The parity: 0 or 1.
 fn with_parity(card: Card, word: u32) -> Card
     ensures { result ≡ with_parity card word }
 {
-    if word < NO_PARITY {
-        return card_of(
-            word,
-            card.words,
-            card.asyncs,
-            card.outputs,
-            card.listed,
-            Fault::Fine,
-        );
+    if word < PARITIES {
+        return Card {
+            parity: Some(word),
+            fault: None,
+            ..card
+        };
     }
     faulty(card, Fault::NoParity)
 }
@@ -97,36 +65,36 @@ pub fn parity_taken(card: Card, entry: Entry) -> Card
     match entry {
         Entry::Blank => card,
         Entry::Word(word) => with_parity(card, word),
-        Entry::Async(_, _) => faulty(card, Fault::NoParity),
-        Entry::Out(_, _, _, _) => faulty(card, Fault::NoParity),
-        Entry::NoEntry => faulty(card, Fault::NoParity),
+        Entry::Async(_, _) | Entry::Out(_, _, _, _) | Entry::NoEntry => faulty(
+            card,
+            Fault::NoParity,
+        ),
     }
 }
 
 // A word of the RAMs, behind the others.
+#[tactic(auto, using(word::proofs::Branches::branches), unfolding(crate::specs::Card::word_card, crate::specs::Card::word_list))]
 pub fn word_taken(words: &mut [u32], card: Card, word: u32) -> Card
     ensures answer { result ≡ word_card (length words.old) card }
     ensures after { words.new ≡ word_list words.old card word }
 {
-    let count = card.words;
     if card.listed {
         return faulty(card, Fault::NoEntry);
     }
-    if count < words.len() {
-        words[count] = word;
-        return card_of(
-            card.parity,
-            count + 1,
-            card.asyncs,
-            card.outputs,
-            false,
-            Fault::Fine,
-        );
+    if card.words < words.len() {
+        words[card.words] = word;
+        return Card {
+            words: card.words + 1,
+            listed: false,
+            fault: None,
+            ..card
+        };
     }
     faulty(card, Fault::NoEntry)
 }
 
 // An async word with its step, behind the others.
+#[tactic(auto, using(word::proofs::Branches::branches), unfolding(crate::specs::Card::async_card, crate::specs::Card::async_list))]
 pub fn async_taken(asyncs: &mut [u32], card: Card, step: u32, word: u32) -> Card
     ensures answer { result ≡ async_card (length asyncs.old) card }
     ensures after { asyncs.new ≡ async_list asyncs.old card step word }
@@ -140,64 +108,47 @@ pub fn async_taken(asyncs: &mut [u32], card: Card, step: u32, word: u32) -> Card
     }
     asyncs[count] = step;
     asyncs[count + 1] = word;
-    card_of(
-        card.parity,
-        card.words,
-        count + 2,
-        card.outputs,
-        true,
-        Fault::Fine,
-    )
+    Card {
+        asyncs: count + 2,
+        listed: true,
+        fault: None,
+        ..card
+    }
 }
 
 // An output behind the others; one for which there is no room is passed over, since the outputs before it are too many already.
+#[tactic(auto, using(word::proofs::Branches::branches), unfolding(crate::specs::Card::output_card, crate::specs::Card::output_list))]
 pub fn output_taken(outputs: &mut [u32], card: Card, form: u32, x: u32, y: u32, z: u32) -> Card
     ensures answer { result ≡ output_card (length outputs.old) card }
     ensures after { outputs.new ≡ output_list outputs.old card form x y z }
 {
+    let listed = Card {
+        listed: true,
+        fault: None,
+        ..card
+    };
     let count = card.outputs;
     if outputs.len() <= count {
-        return card_of(
-            card.parity,
-            card.words,
-            card.asyncs,
-            count,
-            true,
-            Fault::Fine,
-        );
+        return listed;
     }
     if outputs.len() - count < 4 {
-        return card_of(
-            card.parity,
-            card.words,
-            card.asyncs,
-            count,
-            true,
-            Fault::Fine,
-        );
+        return listed;
     }
     outputs[count] = form;
     outputs[count + 1] = x;
     outputs[count + 2] = y;
     outputs[count + 3] = z;
-    card_of(
-        card.parity,
-        card.words,
-        card.asyncs,
-        count + 4,
-        true,
-        Fault::Fine,
-    )
+    Card {
+        outputs: count + 4,
+        ..listed
+    }
 }
 
 // A line that says none of these: a word was due while the RAMs have room and no async word or output was read.
 pub fn wrong_line(card: Card, room: usize) -> Card
     ensures { result ≡ wrong_line card room }
 {
-    if card.listed {
-        return faulty(card, Fault::NoEntry);
-    }
-    if card.words < room {
+    if !card.listed && card.words < room {
         return faulty(card, Fault::NoWord);
     }
     faulty(card, Fault::NoEntry)

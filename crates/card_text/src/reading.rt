@@ -3,13 +3,13 @@ ghost use Rattle.std.specs.Prelude.{◌≡◌};
 ghost use Rattle.card_text.specs.Gathered.{Left, Held, state_of, text_of, entry_taken, line_taken, line_after, line_ended, byte_taken, text_taken, with_parity, finished};
 
 use crate::card;
-use crate::card::{Card, NO_PARITY};
+use crate::card::Card;
 use crate::faults::Fault;
 use card_lines::fields;
 use card_lines::fields::{Entry, Fields};
 
 // The line that is being read, what the lines before it made up, and its number, from 1: of the first wrong line where there is one.
-#[derive(Drop)]
+#[derive(Clone, Copy)]
 pub struct Progress {
     pub fields: Fields,
     pub card: Card,
@@ -20,11 +20,9 @@ pub struct Progress {
 pub fn begun() -> Progress
     ensures { result ≡ Rattle.card_text.specs.Gathered.begun }
 {
-    let fields = fields::begun();
-    let card = card::begun();
     Progress {
-        fields,
-        card,
+        fields: fields::begun(),
+        card: card::begun(),
         line: 1,
     }
 }
@@ -58,36 +56,31 @@ fn line_taken(
 ) -> Card
     ensures { Left (line_taken (state_of card words.old asyncs.old outputs.old) entry) result words.new asyncs.new outputs.new }
 {
-    if card.parity == NO_PARITY {
-        return card::parity_taken(card, entry);
+    if card.parity.is_some() {
+        return entry_taken(words, asyncs, outputs, card, entry);
     }
-    entry_taken(words, asyncs, outputs, card, entry)
+    card::parity_taken(card, entry)
 }
 
 // The number of the next line; a wrong line keeps its own.
 fn line_after(card: Card, line: u64) -> u64
     ensures { result ≡ line_after card line }
 {
-    let fault = card.fault;
-    if card::is_faulty(fault) {
+    if card.fault.is_some() {
         return line;
     }
-    std::num::wrapping_add_u64(line, 1)
+    line.wrapping_add(1)
 }
 
 // The line ends here: what it says is taken, and the next one begins.
 fn line_ended(words: &mut [u32], asyncs: &mut [u32], outputs: &mut [u32], at: Progress) -> Progress
     ensures { Held (line_ended (text_of at words.old asyncs.old outputs.old)) result words.new asyncs.new outputs.new }
 {
-    let fields = at.fields;
-    let before = at.card;
-    let line = at.line;
-    let card = line_taken(words, asyncs, outputs, before, fields::said(fields));
-    let next = fields::begun();
+    let card = line_taken(words, asyncs, outputs, at.card, fields::said(at.fields));
     Progress {
-        fields: next,
+        fields: fields::begun(),
         card,
-        line: line_after(card, line),
+        line: line_after(card, at.line),
     }
 }
 
@@ -101,18 +94,16 @@ fn byte_taken(
 ) -> Progress
     ensures { Held (byte_taken (text_of at words.old asyncs.old outputs.old) byte) result words.new asyncs.new outputs.new }
 {
-    let card = at.card;
-    let fault = card.fault;
-    if card::is_faulty(fault) {
+    if at.card.fault.is_some() {
         return at;
     }
     if byte == b'\n' {
         return line_ended(words, asyncs, outputs, at);
     }
-    let before = at.fields;
-    let line = at.line;
-    let fields = fields::taken(before, byte);
-    Progress { fields, card, line }
+    Progress {
+        fields: fields::taken(at.fields, byte),
+        ..at
+    }
 }
 
 // The bytes of a text, in turn.
@@ -120,35 +111,30 @@ pub fn text_taken(
     words: &mut [u32],
     asyncs: &mut [u32],
     outputs: &mut [u32],
-    at: Progress,
+    mut at: Progress,
     text: &[u8],
 ) -> Progress
     ensures { Held (text_taken (text_of at words.old asyncs.old outputs.old) text.now) result words.new asyncs.new outputs.new }
 {
-    let mut at = at;
-    let mut place = 0;
-    while place < text.len() {
-        at = byte_taken(words, asyncs, outputs, at, text[place]);
-        place += 1;
+    for byte in text {
+        at = byte_taken(words, asyncs, outputs, at, *byte);
     }
     at
 }
 
 // A text with no parity is wrong at its last line.
+#[tactic(auto, unfolding(crate::specs::Gathered::with_parity))]
 fn with_parity(at: Progress, line: u64) -> Progress
     ensures { result ≡ with_parity at line }
 {
-    let fields = at.fields;
-    let card = at.card;
-    if card.parity == NO_PARITY {
-        let wrong = card::faulty(card, Fault::NoParity);
-        return Progress {
-            fields,
-            card: wrong,
-            line,
-        };
+    if at.card.parity.is_some() {
+        return at;
     }
-    at
+    Progress {
+        card: card::faulty(at.card, Fault::NoParity),
+        line,
+        ..at
+    }
 }
 
 // The end of the text, which ends its last line.
@@ -160,11 +146,8 @@ pub fn finished(
 ) -> Progress
     ensures { Held (finished (text_of at words.old asyncs.old outputs.old)) result words.new asyncs.new outputs.new }
 {
-    let card = at.card;
-    let fault = card.fault;
-    if card::is_faulty(fault) {
+    if at.card.fault.is_some() {
         return at;
     }
-    let line = at.line;
-    with_parity(line_ended(words, asyncs, outputs, at), line)
+    with_parity(line_ended(words, asyncs, outputs, at), at.line)
 }

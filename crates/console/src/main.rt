@@ -96,13 +96,12 @@ fn print_label(out: &mut impl Write, word: u32) {
 
 // The line for one line of the input.
 fn answer(out: &mut impl Write, list: &[u32], line: Line) {
-    let asked = text::line::asked_by(line);
-    match asked {
-        Asked::Read(word) => {
+    match text::line::asked_by(line) {
+        Some(Asked::Read(word)) => {
             print_label(out, word);
             print_reading(out, list, word);
         }
-        Asked::Encode(word, minus, size) => {
+        Some(Asked::Encode(word, minus, size)) => {
             print_label(out, word);
             print_encoded(
                 out,
@@ -111,7 +110,7 @@ fn answer(out: &mut impl Write, list: &[u32], line: Line) {
                 reading_fields::signs::joined(minus, size % 0x8000_0000),
             );
         }
-        Asked::Nothing => {
+        None => {
             print(out, b"no word");
         }
     }

@@ -4,87 +4,41 @@
 
 use bench_card::Verdict;
 use card_text::faults::Fault;
-use card_text::judging::Answer;
+use card_text::judging::CardError;
 use card_text::{judging, reading, room};
-use schedule::Output;
+use std::fmt;
 use std::io::Write;
 
-fn print(out: &mut impl Write, text: &[u8]) {
-    streams::write_all(out, text);
-}
+// What is said of a card, as it is written.
+#[derive(Clone, Copy)]
+struct Answer(Result<Verdict, CardError>);
 
-fn print_number(out: &mut impl Write, number: u64) {
-    streams::print_decimal(out, number);
-}
-
-// A number behind a blank.
-fn print_next(out: &mut impl Write, number: u32) {
-    print(out, b" ");
-    print_number(out, number as u64);
-}
-
-// The four numbers of an output.
-fn print_output(out: &mut impl Write, output: Output) {
-    let numbers = schedule::values(output);
-    print_next(out, numbers[0]);
-    print_next(out, numbers[1]);
-    print_next(out, numbers[2]);
-    print_next(out, numbers[3]);
-}
-
-fn print_verdict(out: &mut impl Write, verdict: Verdict) {
-    match verdict {
-        Verdict::Yes => {
-            print(out, b"0 yes\n");
-        }
-        Verdict::Differs(place, due) => {
-            print(out, b"0 ");
-            print_number(out, place as u64);
-            print_output(out, due);
-            print(out, b"\n");
-        }
-        Verdict::Nothing(place) => {
-            print(out, b"0 ");
-            print_number(out, place as u64);
-            print(out, b" nothing\n");
-        }
-        Verdict::Refused(number) => {
-            print_number(out, number as u64);
-            print(out, b" 0\n");
+impl fmt::Display for Answer {
+    fn fmt<W: fmt::Write>(&self, f: &mut fmt::Formatter<W>) -> fmt::Result {
+        match self.0 {
+            Ok(Verdict::Yes) => write!(f, "0 yes"),
+            Ok(Verdict::Differs(place, due)) => {
+                let [form, x, y, z] = schedule::values(due);
+                write!(f, "0 {place} {form} {x} {y} {z}")
+            }
+            Ok(Verdict::Nothing(place)) => write!(f, "0 {place} nothing"),
+            Err(CardError::Refused(refusal)) => write!(f, "{} 0", u32::from(refusal)),
+            Err(CardError::WrongLine(fault, line)) => write!(f, "line {line}: {}", Wrong(fault)),
         }
     }
 }
 
-// What is wrong with a line.
-fn print_fault(out: &mut impl Write, fault: Fault) {
-    match fault {
-        Fault::Fine => {}
-        Fault::NoParity => {
-            print(out, b": no parity\n");
-        }
-        Fault::NoWord => {
-            print(out, b": no word\n");
-        }
-        Fault::NoEntry => {
-            print(out, b": no async word and no output\n");
-        }
-        Fault::NoRoom => {
-            print(out, b": no room for more than ");
-            print_number(out, room::ASYNC_WORDS as u64);
-            print(out, b" async words\n");
-        }
-    }
-}
+// What is wrong with a line, as it is written.
+#[derive(Clone, Copy)]
+struct Wrong(Fault);
 
-fn print_answer(out: &mut impl Write, answer: Answer) {
-    match answer {
-        Answer::Wrong(fault, line) => {
-            print(out, b"line ");
-            print_number(out, line);
-            print_fault(out, fault);
-        }
-        Answer::Judged(verdict) => {
-            print_verdict(out, verdict);
+impl fmt::Display for Wrong {
+    fn fmt<W: fmt::Write>(&self, f: &mut fmt::Formatter<W>) -> fmt::Result {
+        match self.0 {
+            Fault::NoParity => write!(f, "no parity"),
+            Fault::NoWord => write!(f, "no word"),
+            Fault::NoEntry => write!(f, "no async word and no output"),
+            Fault::NoRoom => write!(f, "no room for more than {} async words", room::ASYNC_WORDS),
         }
     }
 }
@@ -105,8 +59,6 @@ fn main(rt: HostRuntime) {
         }
     }
     at = reading::finished(&mut words, &mut asyncs, &mut outputs, at);
-    print_answer(
-        &mut rt.stdout(),
-        judging::answered(&words, &asyncs, &outputs, at),
-    );
+    let answer = Answer(judging::answered(&words, &asyncs, &outputs, at));
+    let _ = writeln!(rt.stdout(), "{answer}");
 }

@@ -1,21 +1,19 @@
 // A line `WORD` or `WORD VALUE`, a byte after the other.
 ghost use Rattle.std.specs.Prelude.{◌≡◌, ◌<◌};
-ghost use Rattle.text.specs.Line.{line_of, ended, blanked, prefixed, word_byte, grown, value_byte, opened, filled, taken, outcome, asked_by};
+ghost use Rattle.text.specs.Line.{ended, blanked, prefixed, word_byte, grown, value_byte, signed, opened, filled, taken, outcome, asked_by};
 
 use crate::bytes;
 
-// Where a line stands.
-const BEFORE_WORD: u32 = 0;
-
-const IN_WORD: u32 = 1;
-
-const BEHIND_WORD: u32 = 2;
-
-const IN_VALUE: u32 = 3;
-
-const BEHIND_VALUE: u32 = 4;
-
-const WRONG: u32 = 5;
+// Where a line stands; a wrong line stays wrong.
+#[derive(Clone, Copy, PartialEq, Eq)]
+pub enum Place {
+    BeforeWord,
+    InWord,
+    BehindWord,
+    InValue,
+    BehindValue,
+    Wrong,
+}
 
 // The digits that a word has at most.
 const WORD_DIGITS: u32 = 8;
@@ -23,86 +21,72 @@ const WORD_DIGITS: u32 = 8;
 // A line as far as it was read: its place, whether `0x` or `-` was read, the digits of its field, its word, and the size of its value.
 #[derive(Clone, Copy)]
 pub struct Line {
-    pub place: u32,
+    pub place: Place,
     pub mark: bool,
     pub digits: u32,
     pub word: u32,
     pub size: u32,
 }
 
-// What a line asks for: nothing that is there, the reading of a word, or a number put into a word, by its sign and size.
-#[derive(Drop)]
+// What a line asks for: the reading of a word, or a number put into a word, by its sign and size.
+#[derive(Clone, Copy)]
 pub enum Asked {
-    Nothing,
     Read(u32),
     Encode(u32, bool, u32),
-}
-
-fn line_of(place: u32, mark: bool, digits: u32, word: u32, size: u32) -> Line
-    ensures { result ≡ line_of place mark digits word size }
-{
-    Line {
-        place: place,
-        mark: mark,
-        digits: digits,
-        word: word,
-        size: size,
-    }
 }
 
 // The start of a line.
 pub fn begun() -> Line
     ensures { result ≡ Rattle.text.specs.Line.begun }
 {
-    line_of(BEFORE_WORD, false, 0, 0, 0)
+    Line {
+        place: Place::BeforeWord,
+        mark: false,
+        digits: 0,
+        word: 0,
+        size: 0,
+    }
 }
 
 fn wrong() -> Line
     ensures { result ≡ Rattle.text.specs.Line.wrong }
 {
-    line_of(WRONG, false, 0, 0, 0)
+    Line {
+        place: Place::Wrong,
+        ..begun()
+    }
 }
 
 // A field ends: it has a digit.
-fn ended(at: Line, place: u32) -> Line
+fn ended(at: Line, place: Place) -> Line
     ensures { result ≡ ended at place }
 {
     if at.digits == 0 {
         return wrong();
     }
-    line_of(place, at.mark, at.digits, at.word, at.size)
+    Line { place, ..at }
 }
 
 fn blanked(at: Line) -> Line
     ensures { result ≡ blanked at }
 {
-    if at.place == IN_WORD {
-        return ended(at, BEHIND_WORD);
+    match at.place {
+        Place::InWord => ended(at, Place::BehindWord),
+        Place::InValue => ended(at, Place::BehindValue),
+        _ => at,
     }
-    if at.place == IN_VALUE {
-        return ended(at, BEHIND_VALUE);
-    }
-    at
 }
 
 // The `x` of `0x`.
 fn prefixed(at: Line, byte: u8) -> Line
     ensures { result ≡ prefixed at byte }
 {
-    if at.mark {
-        return wrong();
-    }
-    if at.digits == 1 {
-        if at.word == 0 {
-            if byte == b'x' {
-                return line_of(IN_WORD, true, 0, 0, 0);
-            }
-            if byte == b'X' {
-                return line_of(IN_WORD, true, 0, 0, 0);
-            }
-            return wrong();
-        }
-        return wrong();
+    if !at.mark && at.digits == 1 && at.word == 0 && matches!(byte, b'x' | b'X') {
+        return Line {
+            place: Place::InWord,
+            mark: true,
+            ..begun()
+        };
     }
     wrong()
 }
@@ -111,20 +95,21 @@ fn prefixed(at: Line, byte: u8) -> Line
 fn word_byte(at: Line, byte: u8) -> Line
     ensures { result ≡ word_byte at byte }
 {
-    let digit = bytes::digit(byte);
-    if digit < 16 {
-        if at.digits < WORD_DIGITS {
-            return line_of(
-                IN_WORD,
-                at.mark,
-                at.digits + 1,
-                at.word % 0x1000_0000 * 16 + digit,
-                0,
-            );
+    match bytes::digit(byte) {
+        Some(digit) => {
+            if at.digits < WORD_DIGITS {
+                return Line {
+                    place: Place::InWord,
+                    digits: at.digits + 1,
+                    word: at.word % 0x1000_0000 * 16 + digit,
+                    size: 0,
+                    ..at
+                };
+            }
+            wrong()
         }
-        return wrong();
+        None => prefixed(at, byte),
     }
-    prefixed(at, byte)
 }
 
 // A number with one more digit.
@@ -142,18 +127,28 @@ fn grown(size: u32, digit: u32) -> u32
 fn value_byte(at: Line, byte: u8) -> Line
     ensures { result ≡ value_byte at byte }
 {
-    let digit = bytes::digit(byte);
-    if digit < 10 {
-        return line_of(IN_VALUE, at.mark, 1, at.word, grown(at.size, digit));
+    match bytes::digit(byte) {
+        Some(digit) if digit < 10 => Line {
+            place: Place::InValue,
+            digits: 1,
+            size: grown(at.size, digit),
+            ..at
+        },
+        _ => signed(at, byte),
     }
-    if at.mark {
-        return wrong();
-    }
-    if at.digits == 0 {
-        if byte == b'-' {
-            return line_of(IN_VALUE, true, 0, at.word, 0);
-        }
-        return wrong();
+}
+
+// The `-` before the digits of the value.
+fn signed(at: Line, byte: u8) -> Line
+    ensures { result ≡ signed at byte }
+{
+    if !at.mark && at.digits == 0 && byte == b'-' {
+        return Line {
+            place: Place::InValue,
+            mark: true,
+            size: 0,
+            ..at
+        };
     }
     wrong()
 }
@@ -162,8 +157,12 @@ fn value_byte(at: Line, byte: u8) -> Line
 fn opened(at: Line) -> Line
     ensures { result ≡ opened at }
 {
-    if at.place == BEHIND_WORD {
-        return line_of(IN_VALUE, false, 0, at.word, 0);
+    if at.place == Place::BehindWord {
+        return Line {
+            place: Place::InValue,
+            word: at.word,
+            ..begun()
+        };
     }
     at
 }
@@ -171,16 +170,15 @@ fn opened(at: Line) -> Line
 fn filled(at: Line, byte: u8) -> Line
     ensures { result ≡ filled at byte }
 {
-    if at.place < BEHIND_WORD {
-        return word_byte(at, byte);
+    match at.place {
+        Place::BeforeWord | Place::InWord => word_byte(at, byte),
+        Place::BehindWord | Place::InValue => value_byte(opened(at), byte),
+        Place::BehindValue | Place::Wrong => wrong(),
     }
-    if at.place < BEHIND_VALUE {
-        return value_byte(opened(at), byte);
-    }
-    wrong()
 }
 
 // The line with one byte more.
+#[tactic(auto, using(word::proofs::Branches::branches), unfolding(crate::specs::Line::taken))]
 pub fn taken(at: Line, byte: u8) -> Line
     ensures { result ≡ taken at byte }
 {
@@ -190,20 +188,19 @@ pub fn taken(at: Line, byte: u8) -> Line
     filled(at, byte)
 }
 
-fn outcome(at: Line) -> Asked
+fn outcome(at: Line) -> Option<Asked>
     ensures { result ≡ outcome at }
 {
-    if at.place == BEHIND_WORD {
-        return Asked::Read(at.word);
+    match at.place {
+        Place::BehindWord => Some(Asked::Read(at.word)),
+        Place::BehindValue => Some(Asked::Encode(at.word, at.mark, at.size % 0x8000_0000)),
+        _ => None,
     }
-    if at.place == BEHIND_VALUE {
-        return Asked::Encode(at.word, at.mark, at.size % 0x8000_0000);
-    }
-    Asked::Nothing
 }
 
-// What the line asks for, at its end.
-pub fn asked_by(at: Line) -> Asked
+// What the line asks for, at its end, if anything.
+#[tactic(auto, unfolding(crate::specs::Line::asked_by))]
+pub fn asked_by(at: Line) -> Option<Asked>
     ensures { result ≡ asked_by at }
 {
     outcome(blanked(at))

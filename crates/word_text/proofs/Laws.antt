@@ -3,14 +3,12 @@
 use mathlib.Core.Path.{◌≡◌, refl, sym, ap, ◌∙◌}
 use mathlib.Core.Bool.{Bool, true, false, not, cond}
 use mathlib.Core.List.{List, [], ◌∷◌}
-use Prim.Native.Nat.{ℕ, zero, suc, ◌+◌, ◌*◌, ◌-◌, ◌^◌, ◌<◌, ◌≤◌}
-use native.Mathlib.Nat.{pow-suc}
+use Prim.Native.Nat.{ℕ, zero, suc, ◌+◌, ◌-◌, ◌^◌, ◌<◌, ◌≤◌}
 use native.Mathlib.Omega.{arith}
 use borrow.Author.Tests.{eq-eqb, ne_eqb, ltb-false}
-use lib.Dec.{eqb, ltb, leb, leb→le}
+use lib.Dec.{eqb, ltb}
 use lib.ListN.{length, get_or, take, drop}
 use borrow.Author.Rules.{part_to_end}
-use Rattle.word.proofs.Computed.{at}
 use Rattle.text.specs.Bytes.{is_blank, digit_of}
 use Rattle.word_text.specs.Text.{blanks, digits, hex_value, prefix, word_of, behind_blanks, hex_word}
 use Rattle.word_text.specs.declared.Line.{Line}
@@ -21,12 +19,6 @@ drop_at [] n h = absurd (omega arith)
 drop_at (x ∷ l) zero h = refl
 drop_at (x ∷ l) (suc n) h = drop_at l n (omega arith)
 
-drop_end : (l : List ℕ) (n : ℕ) → length l ≤ n → drop n l ≡ []
-drop_end [] zero h = refl
-drop_end [] (suc n) h = refl
-drop_end (x ∷ l) zero h = absurd (omega arith)
-drop_end (x ∷ l) (suc n) h = drop_end l n (omega arith)
-
 pub not_false : (b : Bool) → not b ≡ true → b ≡ false
 not_false false e = refl
 not_false true e = sym e
@@ -34,19 +26,6 @@ not_false true e = sym e
 pub not_true : (b : Bool) → not b ≡ false → b ≡ true
 not_true true e = refl
 not_true false e = sym e
-
--- ---- blanks
-
-pub blank_on : (l : List ℕ) (n : ℕ) → n < length l → is_blank (get_or l n 0) ≡ true → blanks (drop n l) ≡ suc (blanks (drop (n + 1) l))
-blank_on l n h b =
-    let e : n + 1 ≡ suc n = omega arith in
-    rw (e, drop_at l n h, b) refl
-
-pub blank_off : (l : List ℕ) (n : ℕ) → n < length l → is_blank (get_or l n 0) ≡ false → blanks (drop n l) ≡ 0
-blank_off l n h b = rw (drop_at l n h, b) refl
-
-pub blank_end : (l : List ℕ) (n : ℕ) → length l ≤ n → blanks (drop n l) ≡ 0
-blank_end l n h = rw (drop_end l n h) refl
 
 -- ---- digits
 
@@ -56,42 +35,9 @@ pub record Taken (l : List ℕ) (k v : ℕ) : Type 0 where
   pub value : hex_value 0 0 l ≡ hex_value k v (drop k l)
   pub most : v < 16 ^ k
 
-pub taken_none : (l : List ℕ) → Taken l 0 0
-taken_none l = record { number = refl; value = refl; most = omega arith }
-
-pub taken_on : (l : List ℕ) (k v d : ℕ) → Taken l k v → k < length l → k < 8 → d ≡ digit_of (get_or l k 0) → d < 16 → Taken l (k + 1) (v * 16 + d)
-taken_on l k v d t h b e m =
-    let no : eqb k 8 ≡ false = ne_eqb k 8 (omega arith) in
-    let is : eqb (digit_of (get_or l k 0)) 16 ≡ false = ne_eqb (digit_of (get_or l k 0)) 16 (omega (arith, e, m)) in
-    let s : k + 1 ≡ suc k = omega arith in
-    rw (s, e)
-    record {
-      number = rw (drop_at l k h, no, is) at t.number;
-      value = rw (drop_at l k h, no, is) at t.value;
-      most = rw pow-suc (omega (arith, t.most, rw e at m));
-    }
-
 -- eight digits, a byte that is none, or the end: these are all
 pub taken-eight : (l : List ℕ) (k v : ℕ) → Taken l k v → k < length l → k ≡ 8 → (k ≡ digits 0 l) × (v ≡ hex_value 0 0 l)
 taken-eight l k v t h e = rw (t.number, t.value, drop_at l k h, eq-eqb k 8 e) (refl, refl)
-
-pub taken_off : (l : List ℕ) (k v : ℕ) → Taken l k v → k < length l → digit_of (get_or l k 0) ≡ 16 → (k ≡ digits 0 l) × (v ≡ hex_value 0 0 l)
-taken_off l k v t h d = rw (t.number, t.value, drop_at l k h, eq-eqb (digit_of (get_or l k 0)) 16 d) (both (eqb k 8))
-  where
-    both : (b : Bool) → (k ≡ cond b k k) × (v ≡ cond b v v)
-    both true = (refl, refl)
-    both false = (refl, refl)
-
-pub taken_all_lem : (l : List ℕ) (k v : ℕ) → Taken l k v → length l ≤ k → (k ≡ digits 0 l) × (v ≡ hex_value 0 0 l)
-taken_all_lem l k v t h = rw (t.number, t.value, drop_end l k h) (refl, refl)
-
-pub digit_most : (b : ℕ) → b < 256 → digit_of b ≤ 16
-unfolding digit_of
-digit_most b h = leb→le (digit_of b) 16 (at (λ k. leb (digit_of k) 16) 256 tt b h)
-
--- seven digits write at most a quarter of what eight can
-pub room : (k v : ℕ) → v < 16 ^ k → k < 8 → v < 2 ^ 28
-room k v h b = omega (arith, h, leb→le (16 ^ k) (2 ^ 28) (at (λ j. leb (16 ^ j) (2 ^ 28)) 8 tt k b))
 
 -- ---- what is counted lies within the text
 

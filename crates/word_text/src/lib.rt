@@ -4,10 +4,10 @@
 ghost use Rattle.std.specs.Prelude.{◌≡◌};
 ghost use Rattle.word_text.specs.Text.{blanks, digits, hex_value, prefix, word_of, behind_blanks, hex_word};
 
-use text::bytes::{NO_DIGIT, digit, is_blank};
+use text::bytes::{digit, is_blank};
 
 // What a line of text is.
-#[derive(Drop)]
+#[derive(Clone, Copy)]
 pub enum Line {
     Word(u32),
     Blank,
@@ -18,18 +18,13 @@ pub enum Line {
 fn blanks(text: &[u8]) -> usize
     ensures { result ≡ blanks text.now }
 {
-    let mut at = 0;
-    while at < text.len() {
-        if !is_blank(text[at]) {
-            return at;
-        }
-        at += 1;
-    }
-    at
+    text.iter()
+        .position(|byte| !is_blank(*byte))
+        .unwrap_or(text.len())
 }
 
 // Digits that a text begins with, eight at most: how many, and the number that they write.
-#[derive(Drop)]
+#[derive(Clone, Copy)]
 struct Number {
     count: usize,
     value: u32,
@@ -39,39 +34,31 @@ fn digits(text: &[u8]) -> Number
     ensures count { result.count ≡ digits 0 text.now }
     ensures value { result.value ≡ hex_value 0 0 text.now }
 {
-    let mut count = 0;
     let mut value = 0;
-    while count < text.len() {
+    for (count, byte) in text.iter().enumerate() {
         if count == 8 {
             return Number { count, value };
         }
-        let next = digit(text[count]);
-        if next == NO_DIGIT {
+        let Some(next) = digit(*byte) else {
             return Number { count, value };
-        }
+        };
         value = value * 16 + next;
-        count += 1;
     }
-    Number { count, value }
+    Number {
+        count: text.len(),
+        value,
+    }
 }
 
 // The bytes of a `0x` that the text begins with: two, or none.
+#[tactic(auto, using(word::proofs::Branches::branches), unfolding(crate::specs::Text::prefix))]
 fn prefix(text: &[u8]) -> usize
     ensures { result ≡ prefix text.now }
 {
-    if text.len() < 2 {
-        return 0;
+    match text {
+        [b'0', b'x' | b'X', ..] => 2,
+        _ => 0,
     }
-    if text[0] == b'0' {
-        if text[1] == b'x' {
-            return 2;
-        }
-        if text[1] == b'X' {
-            return 2;
-        }
-        return 0;
-    }
-    0
 }
 
 // A text that begins with a word's digits, and has blanks alone behind them.

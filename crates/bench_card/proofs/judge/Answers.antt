@@ -1,30 +1,16 @@
--- `bench_card::judge` meets its contract: each refusal is a case of the definition, and then the record is compared.
+-- `bench_card::judge` meets its contract: of a record of so many numbers it is known how many outputs they are.
 -- Assumes nothing.
-use native.Mathlib.Omega.{arith}
-use Prim.Native.Nat.{◌<◌, ◌≤◌}
-use lib.ListN.{length}
+use Rattle.std.proofs.Common.{◌<◌, ◌≤◌, length, arith}
 use Rattle.word.proofs.Branches.{branches}
 use Rattle.bench_card.specs.Record.{recorded}
 use Rattle.bench_card.specs.Verdict.{verdict, most}
 use Rattle.bench_card.proofs.Records.{recorded-most, recorded-least}
 use Rattle.bench_card.proofs.judge.Goals as goal
 
-pub returns-then-schedule : goal.returns-then-schedule
-unfolding verdict
-returns-then-schedule c = search branches
-
-pub returns-then-messages : goal.returns-then-messages
-unfolding verdict
-returns-then-messages c = search branches
-
 pub returns-then-outputs-gt-MOST_NUMBERS : goal.returns-then-outputs-gt-MOST_NUMBERS
 unfolding verdict
-returns-then-outputs-gt-MOST_NUMBERS c = let l = c.args.outputs.now in
-    let h : most < length (recorded l) = omega (arith, recorded-most l) in
-    search branches
+returns-then-outputs-gt-MOST_NUMBERS c = let h : most < length (recorded c.args.outputs.now) = omega (arith, recorded-most c.args.outputs.now) in search branches
 
 pub returns : goal.returns
 unfolding verdict
-returns c = let l = c.args.outputs.now in
-    let h : length (recorded l) ≤ most = omega (arith, recorded-least l) in
-    search (branches, c.compared.ensures)
+returns c = let h : length (recorded c.args.outputs.now) ≤ most = omega (arith, recorded-least c.args.outputs.now) in rw c.compared.ensures (search branches)

@@ -1,18 +1,21 @@
--- `word_text::blanks` meets its contract: so many blanks are passed, and what is left to count are those behind them.
+-- `word_text::blanks` meets its contract: the blanks end at the first byte that is none.
 -- Assumes nothing.
-use native.Mathlib.Omega.{arith}
-use Rattle.word_text.proofs.Laws.{blank_on, blank_off, blank_end, not_false, not_true}
+use Rattle.std.proofs.Common.{◌≡◌, ℕ, true, false, List, ◌∷◌, ◌+◌, refl, sym, ◌∙◌, rules, arith}
+use Rattle.std.proofs.lemmas.Iterator.{index_from_first, IsFirst-from_position, YieldsList-from_slice}
+use borrow.Author.Tests.{tests}
+use Rattle.text.specs.Bytes.{is_blank}
+use Rattle.word_text.specs.Text.{blanks}
+use Rattle.word_text.proofs.Laws.{not_false, not_true}
 use Rattle.word_text.proofs.blanks.Goals as goal
 
-pub returns-then-not-is_blank : goal.returns-then-not-is_blank
-returns-then-not-is_blank c = let l = c.args.text.now in
-    omega (arith, c.loop-at.invariant.1, blank_off l c.loop-at.at c.loop-at-test.true (search (not_false, ← c.is_blank.ensures, c.if-not-is_blank.true)))
+hit : (b : ℕ) (l : List ℕ) → is_blank b ≡ false → blanks (b ∷ l) ≡ 0
+hit b l h = rw h
 
-pub loop-at-preserved : goal.loop-at-preserved
-loop-at-preserved c = let l = c.args.text.now in (
-  omega arith,
-  omega (arith, c.loop-at.invariant.1, blank_on l c.loop-at.at c.loop-at-test.true (search (not_true, ← c.is_blank.ensures, c.if-not-is_blank.false))),
-)
+miss : (b : ℕ) (l : List ℕ) → is_blank b ≡ true → blanks (b ∷ l) ≡ blanks l + 1
+miss b l h = rw h (omega arith)
 
 pub returns : goal.returns
-returns c = omega (arith, c.loop-at.invariant.1, blank_end c.args.text.now c.loop-at.at c.loop-at-test.false)
+returns c = let text = c.args.text.now in
+    c.unwrap_or.ensures ∙ sym (index_from_first blanks (λ b. is_blank b ≡ false) (λ b. is_blank b ≡ true) refl hit miss text _
+    (IsFirst-from_position _ _ _ (λ b. is_blank b ≡ false) (λ b. is_blank b ≡ true) c.position.ensures.ran (YieldsList-from_slice text cc)
+    (λ x q k. search (rules, tests, not_false)) (λ x q k. search (rules, tests, not_true))))

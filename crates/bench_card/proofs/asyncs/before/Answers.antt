@@ -1,24 +1,15 @@
--- `bench_card::asyncs::before` meets its contract: the writes from `at` on give what the whole list gives.
+-- `bench_card::asyncs::before` meets its contract: the writes that are left give what the whole list gives.
 -- Assumes nothing.
-use mathlib.Core.Path.{refl, sym, ap, ◌∙◌}
-use Prim.Native.Nat.{◌+◌}
-use native.Mathlib.Omega.{arith}
-use lib.ListN.{drop}
-use borrow.Author.Rules.{rules}
-use Rattle.bench_card.specs.Asyncs.{before}
-use Rattle.bench_card.proofs.Writes.{before-next, before_end}
+use Rattle.std.proofs.Common.{sym, ◌∙◌, arith}
+use Rattle.bench_card.proofs.Writes.{before_more, before_end}
 use Rattle.bench_card.proofs.asyncs.before.Goals as goal
 
-pub loop-at-init : goal.loop-at-init
-loop-at-init c = (search rules, refl)
-
-pub loop-at-preserved : goal.loop-at-preserved
-loop-at-preserved c = let args = c.args in (
-  omega arith,
-  ap (λ p. before args.step (drop (c.loop-at.at + 2) args.asyncs.now) p) c.written_for-place.ensures
-      ∙ sym (before-next args.step args.asyncs.now c.loop-at.at c.loop-at.place (omega arith)) ∙ c.loop-at.invariant.1,
-)
+pub loop-write-preserved : goal.loop-write-preserved
+loop-write-preserved c = let s = c.in-Some.ensures.steps in record {
+  pairs = s.0 ∙ c.loop-write.invariant.pairs;
+  same = rw c.written_for-place.ensures
+      (sym (before_more c.args.step _ _ _ c.loop-write.place s.1.0 (s.1.1 ∙ c.loop-write.invariant.pairs)) ∙ c.loop-write.invariant.same);
+}
 
 pub returns : goal.returns
-returns c = let args = c.args in
-    sym (before_end args.step args.asyncs.now c.loop-at.at c.loop-at.place (omega arith)) ∙ c.loop-at.invariant.1
+returns c = let s = c.in-None.ensures.steps in sym (before_end c.args.step _ c.loop-write.place (omega (arith, s.1.0, c.loop-write.invariant.pairs))) ∙ c.loop-write.invariant.same

@@ -4,10 +4,10 @@ use Rattle.std.proofs.Common.{refl, ap, ◌∙◌}
 use Rattle.card_text.specs.Gathered.{with_parity, finished}
 use Rattle.card_text.proofs.reading.finished.Goals as goal
 
-pub returns-then-is_faulty : goal.returns-then-is_faulty
+pub returns-then-is_some : goal.returns-then-is_some
 unfolding finished
-returns-then-is_faulty c = rw (← c.is_faulty.ensures, c.if-is_faulty.true) (record { answer = refl; words-after = refl; asyncs_after = refl; outputs_after = refl })
+returns-then-is_some c = rw (← c.is_some.ensures, c.if-is_some.true) (record { answer = refl; words-after = refl; asyncs_after = refl; outputs_after = refl })
 
 pub returns : goal.returns
 unfolding finished
-returns c = let h = c.line_ended.ensures in rw (← c.is_faulty.ensures, c.if-is_faulty.false) (record { answer = c.with_parity.ensures ∙ ap (λ p. with_parity p c.args.at.line) h.answer; words-after = h.words-after; asyncs_after = h.asyncs_after; outputs_after = h.outputs_after })
+returns c = let h = c.line_ended.ensures in rw (← c.is_some.ensures, c.if-is_some.false) (record { answer = c.with_parity.ensures ∙ ap (λ p. with_parity p c.args.at.line) h.answer; words-after = h.words-after; asyncs_after = h.asyncs_after; outputs_after = h.outputs_after })
