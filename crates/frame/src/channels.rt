@@ -29,7 +29,7 @@ fn are_sound(mem: &[u32]) -> bool
     let count = mem[COUNT];
     let mut sound = true;
     for tested in 0..count {
-        sound = sound & is_channel_sound(mem, tested + 1);
+        sound &= is_channel_sound(mem, tested + 1);
     }
     sound
 }

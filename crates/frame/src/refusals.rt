@@ -17,44 +17,24 @@ pub const THRESHOLD_LEAST: u32 = 1;
 
 pub const THRESHOLD_GREATEST: u32 = 65535;
 
-const LEAST: [u32; MODULE_WORDS] = [
-    1,
-    0,
-    0,
-    THRESHOLD_LEAST,
-    0,
-    0,
-    0,
-    0,
-    0,
-    0,
-    0,
-    0,
-    0,
-    0,
-    0,
-    0,
-    LAYOUT_NUMBER,
-];
-
-const GREATEST: [u32; MODULE_WORDS] = [
-    MOST,
-    0xFFFF_FFFF,
-    RESOLUTION_GREATEST,
-    THRESHOLD_GREATEST,
-    TOP,
-    TOP,
-    TOP,
-    TOP,
-    TOP,
-    TOP,
-    TOP,
-    TOP,
-    TOP,
-    TOP,
-    TOP,
-    TOP,
-    LAYOUT_NUMBER,
+const RANGES: [(u32, u32); MODULE_WORDS] = [
+    (1, MOST), // count
+    (0, 0xFFFF_FFFF), // stamp
+    (0, RESOLUTION_GREATEST), // stamp resolution
+    (THRESHOLD_LEAST, THRESHOLD_GREATEST), // fault threshold
+    (0, TOP), // the twelve fault counters
+    (0, TOP),
+    (0, TOP),
+    (0, TOP),
+    (0, TOP),
+    (0, TOP),
+    (0, TOP),
+    (0, TOP),
+    (0, TOP),
+    (0, TOP),
+    (0, TOP),
+    (0, TOP),
+    (LAYOUT_NUMBER, LAYOUT_NUMBER), // layout number
 ];
 
 // The refusal of memory that is too short, or whose stored count is outside 1 to 12.
@@ -82,7 +62,8 @@ pub fn in_part(at: usize, value: u32) -> bool
     requires { at < module_words }
     ensures { result ≡ within part_leasts part_greatests at value }
 {
-    (LEAST[at] <= value) & (value <= GREATEST[at])
+    let (least, greatest) = RANGES[at];
+    (least <= value) & (value <= greatest)
 }
 
 // Whether every word of the module part is in its range. Every word is tested, with no branch between them.
@@ -92,7 +73,7 @@ fn is_part_sound(mem: &[u32]) -> bool
 {
     let mut sound = true;
     for at in 0..MODULE_WORDS {
-        sound = sound & in_part(at, mem[at]);
+        sound &= in_part(at, mem[at]);
     }
     sound
 }
