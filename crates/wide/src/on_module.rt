@@ -43,7 +43,7 @@ fn accept(mem: &mut [u32], effect: WideEffect) -> Reply
         }
         WideEffect::Advances(ticks) => {
             let stamp = mem[STAMP];
-            store(mem, STAMP, std::num::wrapping_add_u32(stamp, ticks));
+            store(mem, STAMP, stamp.wrapping_add(ticks));
             Reply::Done
         }
     }

@@ -1,8 +1,6 @@
 -- `wide::on_module::accept` meets its contract: a word is shown, or stored as `store` ensures.
 -- Assumes nothing.
-use Rattle.std.proofs.Common.{set, refl, ap, ◌∙◌, arith}
-use Rattle.frame.specs.Layout.{stamp}
-use Rattle.wide.specs.Rule.{ruled_all}
+use Rattle.std.proofs.Common.{refl, arith}
 use Rattle.wide.proofs.on_module.accept.Goals as goal
 
 pub offset_bounds-mem-at : goal.offset_bounds-mem-at
@@ -21,6 +19,4 @@ pub returns-in-Stores : goal.returns-in-Stores
 returns-in-Stores c = rw c.in-Stores.is (record { answer = refl; after = c.store.ensures })
 
 pub returns-in-Advances : goal.returns-in-Advances
-returns-in-Advances c = let m = c.args.mem.now in
-    let advanced = ap (λ x. ruled_all m (set m stamp x)) c.wrapping_add_u32.ensures.value in
-    rw c.in-Advances.is (record { answer = refl; after = c.store-in-Advances.ensures ∙ advanced })
+returns-in-Advances c = rw c.in-Advances.is (record { answer = refl; after = c.store-in-Advances.ensures })
