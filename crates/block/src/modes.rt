@@ -1,4 +1,5 @@
-// The numbers of the modes: values of the settings of receive mode, FIFO kind and transmit mode.
+// The modes: values of the settings of receive mode, FIFO kind and transmit mode. Numbers, since a setting is a word of the lent memory,
+// where any number may stand.
 
 // Receive modes: FIFO, or mailbox, which is 1.
 pub const FIFO_MODE: u32 = 0;

@@ -9,14 +9,14 @@ ghost use Rattle.schedule.specs.Schedule.{at, onward, async_sent, marked, gives,
 
 use word::Gap;
 
-// The transmitter's states.
+// The transmitter's states. Numbers, since a state is a word of the lent memory, where any number may stand.
 pub const IDLE: u32 = 0;
 
 pub const RUNNING: u32 = 1;
 
 pub const PAUSED: u32 = 2;
 
-// The codes of the commands; those above `JUMP` are reserved.
+// The codes of the commands; those above `JUMP` are reserved. Numbers, since a code is four bits of a word of the lent memory.
 pub const STOP: u32 = 0;
 
 pub const MESSAGE: u32 = 1;
@@ -72,7 +72,7 @@ pub struct Place {
     pub mark: u32,
 }
 
-// What a step gives and leaves; `signal` is 1 where the command signals condition 5, else 0.
+// What a step gives and leaves; `signal` is 1 where the command signals condition 5, else 0, and is multiplied by the condition's weight.
 #[derive(Drop)]
 pub struct Outcome {
     pub output: Output,
@@ -87,7 +87,7 @@ pub fn message_address(command: u32) -> u32
     command % MESSAGES
 }
 
-// The output in four numbers: its form and what belongs to it.
+// The output in four numbers: its form and what belongs to it. A function of this name, since docs/BENCH_CARDS.md names it.
 #[tactic(auto, unfolding(crate::specs::Output::values))]
 pub fn values(output: Output) -> [u32; 4]
     ensures { result ≡ values output }

@@ -41,7 +41,7 @@ pub fn conditions(block: &[u32]) -> u32
         + flag(sending == 0, 8)
 }
 
-// Condition 6: whether a fault counter is above the threshold, 1 or 0.
+// Condition 6: whether a fault counter is above the threshold, 1 or 0, which is multiplied by the condition's weight.
 pub fn fault(counter: u32, threshold: u32) -> u32
     ensures value { result ≡ faulty counter threshold }
     ensures bound { result ≤ 1 }
@@ -80,7 +80,7 @@ fn latch_bit(weight: u32, latch: u32, level: u32, before: u32, holds: u32) -> u3
     weight
 }
 
-// The latch after a call.
+// The latch after a call. A sum of seven, as in `chosen`: a function over a closure would ask for each bit's bound in clauses of its own.
 #[tactic(auto, unfolding(crate::specs::Status::latched))]
 fn latched(latch: u32, level: u32, before: u32, holds: u32) -> u32
     ensures { result ≡ latched latch level before holds }
@@ -140,7 +140,7 @@ pub fn clear_latch(block: &mut [u32], mask: u32)
     block[LATCH] = chosen(block[LATCH], mask, 0);
 }
 
-// Whether an interrupt is pending, that is a latched bit is enabled: 1 or 0.
+// Whether an interrupt is pending, that is a latched bit is enabled: 1 or 0, the number of the answer.
 #[tactic(auto, unfolding(crate::specs::Status::pending))]
 pub fn pending(block: &[u32]) -> u32
     requires { Whole block.now }

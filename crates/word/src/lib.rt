@@ -66,7 +66,7 @@ pub fn with_odd_parity(word: u32) -> u32
     low + 0x8000_0000
 }
 
-// The word as it goes out, by the channel's parity setting: 0 is off, any other number on.
+// The word as it goes out, by the channel's parity setting, a word of the lent memory: 0 is off, any other number on.
 #[tactic(auto, unfolding(crate::specs::Parity::as_sent))]
 pub fn as_sent(parity: u32, word: u32) -> u32
     ensures { result ≡ as_sent parity word }
@@ -77,7 +77,7 @@ pub fn as_sent(parity: u32, word: u32) -> u32
     with_odd_parity(word)
 }
 
-// The parity error of a received word, 1 or 0, by the same setting.
+// The parity error of a received word, 1 or 0 as a status has it in D0, by the same setting.
 #[tactic(auto, unfolding(crate::specs::Parity::error_mark))]
 pub fn error_mark(parity: u32, word: u32) -> u32
     ensures { result ≡ error_mark parity word }
