@@ -98,7 +98,7 @@ impl Kind {
     }
 }
 
-// How many commands a number's kind has; a number of no kind has none.
+// This and the next three take any number, as bytes and C have it. How many commands a number's kind has; a number of no kind has none.
 pub fn commands_of(kind: u32) -> usize
     ensures { result ≡ commands_of kind }
 {

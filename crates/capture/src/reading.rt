@@ -10,7 +10,7 @@ use crate::kinds::{CHANNELS, HALF, Kind, LENT_WORDS, WHOLE};
 use crate::refusal::Refusal;
 use little_endian::{half_at, word_at};
 
-// The record at an offset, and the offset behind it. An image has word and stamp 0.
+// The record at an offset, and the offset behind it. Word and stamp are an arrival's; an image has them as 0, which is what C gets.
 #[derive(Clone, Copy)]
 pub struct Found {
     pub kind: Kind,

@@ -39,22 +39,20 @@ pub fn line_of(base: u64, cursor: Cursor, seen: Result<Option<Found>, Refusal>) 
     let offset = base.wrapping_add(next(seen, cursor).offset as u64);
     match seen {
         Ok(None) => Line::Last([0, 0, offset]),
-        Err(refusal) => Line::Last([u32::from(refusal) as u64, 0, offset]),
+        Err(refusal) => Line::Last([u64::from(u32::from(refusal)), 0, offset]),
         Ok(Some(found)) => match found.kind {
             Kind::Arrival => Line::Arrival([
                 0,
-                u32::from(found.kind) as u64,
+                u64::from(u32::from(found.kind)),
                 offset,
-                found.channel as u64,
-                found.word as u64,
-                found.stamp as u64,
+                u64::from(found.channel),
+                u64::from(found.word),
+                u64::from(found.stamp),
             ]),
-            Kind::OldImage | Kind::Image => Line::Image([
-                0,
-                u32::from(found.kind) as u64,
-                offset,
-                found.channel as u64,
-            ]),
+            Kind::OldImage | Kind::Image => {
+                let kind = u64::from(u32::from(found.kind));
+                Line::Image([0, kind, offset, u64::from(found.channel)])
+            }
         },
     }
 }

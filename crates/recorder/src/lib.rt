@@ -10,7 +10,7 @@ use capture::Cursor;
 use capture::kinds::Kind;
 use little_endian::word_at;
 
-// The op of an arrival.
+// The op of an arrival, as the bytes of an item have it.
 const ARRIVE: u32 = 128;
 
 // The op of a stamp read.
