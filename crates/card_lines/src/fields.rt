@@ -6,7 +6,7 @@ use crate::decimal;
 use text::line::{Asked, Line};
 use text::{bytes, line};
 
-// The names that a line may begin with, as `named` counts their bytes.
+// The names that a line may begin with, as `named` counts their bytes. A name is one number, since a line's state asks for no memory.
 const ASYNC: u64 = 0x0161_7379_6E63;
 
 const OUT: u64 = 0x016F_7574;
@@ -21,7 +21,8 @@ const TOO_LONG: u64 = 0x0200_0000_0000;
 // More fields than any line has.
 const TOO_MANY: u32 = 6;
 
-// The fields that have ended: how many, the bytes of the first, whether one is no number, and the last four numbers.
+// The fields that have ended: how many, the bytes of the first, whether one is no number, and the last four numbers. `wrong` stands beside them,
+// since a name is no number either and the numbers behind it count.
 #[derive(Clone, Copy)]
 pub struct Ended {
     pub count: u32,

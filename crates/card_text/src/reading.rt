@@ -1,4 +1,5 @@
 // The text of a card, a byte after the other.
+// The three lists are lent one by one: of a struct of lent lists each function would also have to promise that they are still the same three.
 ghost use Rattle.std.specs.Prelude.{◌≡◌};
 ghost use Rattle.card_text.specs.Gathered.{Left, Held, state_of, text_of, entry_taken, line_taken, line_after, line_ended, byte_taken, text_taken, with_parity, finished};
 

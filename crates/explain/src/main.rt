@@ -26,10 +26,8 @@ fn number_in(text: &[u8]) -> Token
     ensures { result ≡ number_in text.now }
 {
     let mut token = text::token::none();
-    let mut at = 0;
-    while at < text.len() {
-        token = text::token::token_byte(10, token, text[at]);
-        at += 1;
+    for byte in text {
+        token = text::token::token_byte(10, token, *byte);
     }
     token
 }
@@ -42,7 +40,7 @@ fn argument(env: &impl Env, index: usize) -> Token {
 }
 
 fn is_number(token: Token) -> bool {
-    token.begun & !token.wrong
+    matches!(token, Token::Number(_))
 }
 
 fn print(out: &mut impl Write, text: &[u8]) {

@@ -6,7 +6,7 @@ ghost use Rattle.word_text.specs.Text.{blanks, digits, hex_value, prefix, word_o
 
 use text::bytes::{digit, is_blank};
 
-// What a line of text is.
+// What a line of text is; a blank line is neither a word nor an error.
 #[derive(Clone, Copy)]
 pub enum Line {
     Word(u32),
@@ -85,7 +85,7 @@ fn behind_blanks(text: &[u8]) -> Line
 }
 
 // What a line says, its line end left out: a word of one to eight hexadecimal digits, in either case, with or without `0x` before them and
-// blanks around them; nothing but blanks; or anything else.
+// blanks around them; nothing but blanks; or anything else. The line is lent whole; `text::line` reads one that comes a byte after the other.
 pub fn hex_word(line: &[u8]) -> Line
     ensures { result ≡ hex_word line.now }
 {

@@ -5,16 +5,16 @@ use Rattle.text.specs.declared.token.Token.{Token}
 use Rattle.explain.specs.Number.{read_on}
 use Rattle.explain.proofs.number_in.Goals as goal
 
-pub loop-at-init : goal.loop-at-init
-loop-at-init c = (omega arith, ap (λ (t : Token). read_on t c.args.text.now) c.none-token.ensures)
+pub loop-byte-init : goal.loop-byte-init
+loop-byte-init c = ap (λ (t : Token). read_on t c.args.text.now) c.none-token.ensures
 
-pub loop-at-preserved : goal.loop-at-preserved
-loop-at-preserved c =
+pub loop-byte-preserved : goal.loop-byte-preserved
+loop-byte-preserved c =
     let text = c.args.text.now in
-    (omega arith, rw (c.token_byte-token.ensures, add-one) (rw (drop-cons text c.loop-at.at 0 c.loop-at-test.true) at c.loop-at.invariant.1))
+    rw (c.token_byte-token.ensures, add-one) (rw (drop-cons text c.loop-byte.byte-index 0 c.loop-byte-test.true) at c.loop-byte.invariant)
 
 pub returns : goal.returns
 returns c =
     let text = c.args.text.now in
-    let past : length text ≤ c.loop-at.at = omega arith in
-    rw (drop_of_length-le text past) at c.loop-at.invariant.1
+    let past : length text ≤ c.loop-byte.byte-index = omega arith in
+    rw (drop_of_length-le text past) at c.loop-byte.invariant
