@@ -62,7 +62,10 @@ fn print_meaning(out: &mut impl Write, reason: Reason) -> io::Result<()> {
             writeln!(out, "The arrival was refused with number {number}.")
         }
         Reason::ReceiverOff => {
-            writeln!(out, "The receiver of the channel was off, so the word was ignored.")
+            writeln!(
+                out,
+                "The receiver of the channel was off, so the word was ignored."
+            )
         }
         Reason::FilteredOut => {
             writeln!(
@@ -83,16 +86,28 @@ fn print_meaning(out: &mut impl Write, reason: Reason) -> io::Result<()> {
             )
         }
         Reason::StillHeld => {
-            writeln!(out, "The entry of the word is still held in the receive FIFO.")
+            writeln!(
+                out,
+                "The entry of the word is still held in the receive FIFO."
+            )
         }
         Reason::ReadAt(place) => {
-            writeln!(out, "The entry of the word was read by the call at place {place}.")
+            writeln!(
+                out,
+                "The entry of the word was read by the call at place {place}."
+            )
         }
         Reason::ClearedAt(place) => {
-            writeln!(out, "The entry of the word was cleared by the call at place {place}.")
+            writeln!(
+                out,
+                "The entry of the word was cleared by the call at place {place}."
+            )
         }
         Reason::OverwrittenAt(place) => {
-            writeln!(out, "The entry of the word was overwritten by the call at place {place}.")
+            writeln!(
+                out,
+                "The entry of the word was overwritten by the call at place {place}."
+            )
         }
     }
 }

@@ -84,10 +84,8 @@ pub fn hex(number: u32) -> [u8; 8]
 {
     let mut digits = [0u8; 8];
     let mut rest = number;
-    let mut left = 8;
-    while left > 0 {
-        left -= 1;
-        digits[left] = hex_digit(rest % 16);
+    for place in (0..digits.len()).rev() {
+        digits[place] = hex_digit(rest % 16);
         rest /= 16;
     }
     digits
