@@ -8,7 +8,7 @@ use arrival::Arrival;
 use channel_calls::calls::Answer;
 use registers::accesses::Access;
 
-// The numbers in the first `count` words, and zeros behind them.
+// The numbers in the first `count` words, and zeros behind them: a list that grows would need a heap, and there is none.
 #[derive(Drop)]
 pub struct Numbers {
     pub count: usize,
