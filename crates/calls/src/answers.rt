@@ -11,7 +11,7 @@ use block::refusal::Refusal;
 use channel_calls::calls::Reply;
 use registers::accesses::Access;
 
-// The numbers in the first `count` words, and zeros behind them.
+// The numbers in the first `count` words, and zeros behind them: a list that grows would need a heap, and there is none.
 #[derive(Drop)]
 pub struct Numbers {
     pub count: usize,

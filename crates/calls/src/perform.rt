@@ -5,7 +5,6 @@ ghost use Rattle.calls.specs.Listed.{Lists};
 ghost use Rattle.calls.specs.Performed.{item_numbers, item_after};
 
 use crate::answers::Numbers;
-use items::Item;
 
 // The answer's number of an item that is no call.
 pub const NO_CALL: u32 = 42;
@@ -15,13 +14,12 @@ pub fn perform_item(mem: &mut [u32], op: u32, channel: u32, a: u32, b: u32) -> N
     ensures answer { Lists result (item_numbers (decoded op channel a b) mem.old) }
     ensures after { mem.new ≡ item_after (decoded op channel a b) mem.old }
 {
-    let item = items::decode(op, channel, a, b);
-    match item {
-        Item::NoCall => Numbers {
+    match items::decode(op, channel, a, b) {
+        None => Numbers {
             count: 1,
             words: [NO_CALL, 0, 0, 0, 0, 0, 0, 0],
         },
-        Item::Asked(access) => {
+        Some(access) => {
             let answer = registers::perform::perform(mem, access);
             crate::answers::numbers_of(access, answer)
         }

@@ -6,17 +6,13 @@
 ghost use Rattle.std.specs.Prelude.{◌≡◌};
 ghost use Rattle.explain.specs.Number.{number_in};
 
-use block::layout::WORDS;
 use following::course::Reason;
-use frame::layout::{MODULE_WORDS, MOST};
-use reasons::{Explained, MOST_ITEMS};
+use reasons::{MOST_ITEMS, Refusal};
 use sessions::ITEM_BYTES;
 use std::env::Env;
+use std::io;
 use std::io::{Read, Write};
 use text::token::Token;
-
-// The words of twelve channels.
-const NEED: usize = MODULE_WORDS + (MOST as usize) * WORDS;
 
 // The bytes of the longest list, and one more by which a longer one is told.
 const ROOM: usize = ITEM_BYTES * MOST_ITEMS + 1;
@@ -43,117 +39,88 @@ fn is_number(token: Token) -> bool {
     matches!(token, Token::Number(_))
 }
 
-fn print(out: &mut impl Write, text: &[u8]) {
-    streams::write_all(out, text);
-}
-
-fn print_name(out: &mut impl Write, reason: Reason) {
+fn name(reason: Reason) -> &'static str {
     match reason {
-        Reason::NoReason => print(out, b"none"),
-        Reason::RefusedBy(_) => print(out, b"refused"),
-        Reason::ReceiverOff => print(out, b"receiver-off"),
-        Reason::FilteredOut => print(out, b"filtered"),
-        Reason::DroppedOnFull => print(out, b"dropped"),
-        Reason::ListedAlready => print(out, b"already-listed"),
-        Reason::StillHeld => print(out, b"held"),
-        Reason::ReadAt(_) => print(out, b"read"),
-        Reason::ClearedAt(_) => print(out, b"cleared"),
-        Reason::OverwrittenAt(_) => print(out, b"overwritten"),
+        Reason::NoReason => "none",
+        Reason::RefusedBy(_) => "refused",
+        Reason::ReceiverOff => "receiver-off",
+        Reason::FilteredOut => "filtered",
+        Reason::DroppedOnFull => "dropped",
+        Reason::ListedAlready => "already-listed",
+        Reason::StillHeld => "held",
+        Reason::ReadAt(_) => "read",
+        Reason::ClearedAt(_) => "cleared",
+        Reason::OverwrittenAt(_) => "overwritten",
     }
 }
 
-// A sentence that ends in a number.
-fn print_with(out: &mut impl Write, text: &[u8], number: u32) {
-    print(out, text);
-    streams::print_decimal(out, number as u64);
-    print(out, b".");
-}
-
-// What a refusal of the question means.
-fn print_refusal(out: &mut impl Write, number: u32) {
-    match number {
-        1 => print(
-            out,
-            b"The working memory is too short for that many channels.",
-        ),
-        4 => print(out, b"The channel count must be 1 to 12."),
-        40 => print(out, b"There is no arrival at that place of the list."),
-        41 => print(out, b"The list has more than 4096 calls."),
-        42 => print(
-            out,
-            b"An item of the list is no call, or the last one is cut short.",
-        ),
-        _ => print_with(out, b"The question was refused with number ", number),
-    }
-}
-
-// What a reason means. In mailbox mode the word's entry is its index in the list.
-fn print_meaning(out: &mut impl Write, number: u32, reason: Reason) {
+// What a reason means, as a line. In mailbox mode the word's entry is its index in the list.
+fn print_meaning(out: &mut impl Write, reason: Reason) -> io::Result<()> {
     match reason {
-        Reason::NoReason => print_refusal(out, number),
-        Reason::RefusedBy(by) => print_with(out, b"The arrival was refused with number ", by),
-        Reason::ReceiverOff => print(
-            out,
-            b"The receiver of the channel was off, so the word was ignored.",
-        ),
-        Reason::FilteredOut => {
-            print(
+        Reason::NoReason => writeln!(out, "There is no reason."),
+        Reason::RefusedBy(number) => {
+            writeln!(out, "The arrival was refused with number {number}.")
+        }
+        Reason::ReceiverOff => {
+            writeln!(
                 out,
-                b"Match was on and the index of the word was not in the match set, so the word was filtered out.",
+                "The receiver of the channel was off, so the word was ignored."
+            )
+        }
+        Reason::FilteredOut => {
+            writeln!(
+                out,
+                "Match was on and the index of the word was not in the match set, so the word was filtered out.",
             )
         }
         Reason::DroppedOnFull => {
-            print(
+            writeln!(
                 out,
-                b"The receive FIFO was full and bounded, so the entry of the word was dropped.",
+                "The receive FIFO was full and bounded, so the entry of the word was dropped.",
             )
         }
         Reason::ListedAlready => {
-            print(
+            writeln!(
                 out,
-                b"The index of the word was already listed, so it was not listed again.",
+                "The index of the word was already listed, so it was not listed again.",
             )
         }
-        Reason::StillHeld => print(
-            out,
-            b"The entry of the word is still held in the receive FIFO.",
-        ),
-        Reason::ReadAt(place) => {
-            print_with(
+        Reason::StillHeld => {
+            writeln!(
                 out,
-                b"The entry of the word was read by the call at place ",
-                place,
+                "The entry of the word is still held in the receive FIFO."
+            )
+        }
+        Reason::ReadAt(place) => {
+            writeln!(
+                out,
+                "The entry of the word was read by the call at place {place}."
             )
         }
         Reason::ClearedAt(place) => {
-            print_with(
+            writeln!(
                 out,
-                b"The entry of the word was cleared by the call at place ",
-                place,
+                "The entry of the word was cleared by the call at place {place}."
             )
         }
         Reason::OverwrittenAt(place) => {
-            print_with(
+            writeln!(
                 out,
-                b"The entry of the word was overwritten by the call at place ",
-                place,
+                "The entry of the word was overwritten by the call at place {place}."
             )
         }
     }
 }
 
 // The two lines of an answer.
-fn print_answer(out: &mut impl Write, explained: Explained) {
-    let number = explained.number;
-    let reason = explained.reason;
-    streams::print_decimal(out, number as u64);
-    print(out, b" ");
-    print_name(out, reason);
-    print(out, b" ");
-    streams::print_decimal(out, reasons::beside(reason) as u64);
-    print(out, b"\n");
-    print_meaning(out, number, reason);
-    print(out, b"\n");
+fn print_answer(out: &mut impl Write, answer: Result<Reason, Refusal>) -> io::Result<()> {
+    match answer {
+        Ok(reason) => {
+            writeln!(out, "0 {} {}", name(reason), reasons::beside(reason))?;
+            print_meaning(out, reason)
+        }
+        Err(refusal) => writeln!(out, "{} none 0\n{refusal}", u32::from(refusal)),
+    }
 }
 
 // Room for the list.
@@ -161,15 +128,10 @@ fn room() -> [u8; ROOM] {
     [0; ROOM]
 }
 
-// Working memory for twelve channels.
-fn memory() -> [u32; NEED] {
-    [0; NEED]
-}
-
 // Explains a list of items.
 fn explain_list(out: &mut impl Write, count: u32, bytes: &[u8], place: u32) {
-    let mut mem = memory();
-    print_answer(out, reasons::explain(count, bytes, place, &mut mem));
+    let mut mem = sessions::memory();
+    let _ = print_answer(out, reasons::explain(count, bytes, place, &mut mem));
 }
 
 // Explains the list on standard input.

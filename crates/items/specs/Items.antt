@@ -1,5 +1,5 @@
 -- The accesses of items `op channel a b`: the table of ops. A word that an op does not use is ignored.
-use Rattle.std.specs.Prelude.{ℕ, ◌-◌, cond, eqb, ltb}
+use Rattle.std.specs.Prelude.{ℕ, ◌-◌, cond, eqb, ltb, Option, None, Some}
 use Rattle.channel_calls.specs.declared.calls.Setting.{Setting}
 use Rattle.channel_calls.specs.declared.calls.Setting.TheVariants.{Receiver, Transmitter, Parity, Match, Stamps, ReceiveMode, FifoKind, TransmitMode, ReceiveSize, AlmostFull, AlmostEmpty, Rate}
 use Rattle.channel_calls.specs.declared.calls.SettingCall.TheVariants.{WriteSetting, ReadSetting}
@@ -20,9 +20,8 @@ use Rattle.channel_calls.specs.declared.calls.ChannelCall.TheVariants.{Settings,
 use Rattle.wide.specs.declared.calls.WideCall.{WideCall}
 use Rattle.wide.specs.declared.calls.WideCall.TheVariants.{AdvanceStamp, ZeroStamp, ReadStamp, WriteResolution, ReadResolution, WriteThreshold, ReadThreshold}
 use Rattle.module.specs.declared.calls.Call.TheVariants.{PowerUp, Reset, Wide, On}
+use Rattle.registers.specs.declared.accesses.Access.{Access}
 use Rattle.registers.specs.declared.accesses.Access.TheVariants.{Direct, ReadRegister, WriteRegister}
-use Rattle.items.specs.declared.Item.{Item}
-use Rattle.items.specs.declared.Item.TheVariants.{NoCall, Asked}
 
 -- ops 3 to 9
 unfoldable pub wide_of : ℕ → ℕ → WideCall
@@ -50,12 +49,12 @@ setting_of s =
     (cond (eqb s 10) AlmostEmpty Rate))))))
 
 -- ops below 128: 32 and a setting's number writes it, 64 and its number reads it
-unfoldable pub setting_item : ℕ → ℕ → ℕ → Item
+unfoldable pub setting_item : ℕ → ℕ → ℕ → Option Access
 setting_item op ch a =
-    cond (ltb op 32) NoCall
-    (cond (ltb op 44) (Asked (Direct (On ch (Settings (WriteSetting (setting_of (op - 32)) a)))))
-    (cond (ltb op 64) NoCall
-    (cond (ltb op 76) (Asked (Direct (On ch (Settings (ReadSetting (setting_of (op - 64))))))) NoCall)))
+    cond (ltb op 32) None
+    (cond (ltb op 44) (Some (Direct (On ch (Settings (WriteSetting (setting_of (op - 32)) a)))))
+    (cond (ltb op 64) None
+    (cond (ltb op 76) (Some (Direct (On ch (Settings (ReadSetting (setting_of (op - 64))))))) None)))
 
 -- ops 128 to 130
 unfoldable pub receive_of : ℕ → ℕ → ReceiveCall
@@ -110,15 +109,15 @@ channel_of op a b =
     (cond (ltb op 153) (Status (status_of op a)) (Reads (read_of op)))))))
 
 -- ops above 156: 160 reads the register at an address, 161 writes it
-unfoldable pub register_item : ℕ → ℕ → ℕ → Item
-register_item op a b = cond (eqb op 160) (Asked (ReadRegister a)) (cond (eqb op 161) (Asked (WriteRegister a b)) NoCall)
+unfoldable pub register_item : ℕ → ℕ → ℕ → Option Access
+register_item op a b = cond (eqb op 160) (Some (ReadRegister a)) (cond (eqb op 161) (Some (WriteRegister a b)) None)
 
 -- the access of an item: op 1 is the power-up, op 2 the module reset; an op that is not in the table is no call
-unfoldable pub decoded : ℕ → ℕ → ℕ → ℕ → Item
+unfoldable pub decoded : ℕ → ℕ → ℕ → ℕ → Option Access
 decoded op ch a b =
-    cond (ltb op 1) NoCall
-    (cond (eqb op 1) (Asked (Direct (PowerUp a)))
-    (cond (eqb op 2) (Asked (Direct Reset))
-    (cond (ltb op 10) (Asked (Direct (Wide (wide_of op a))))
+    cond (ltb op 1) None
+    (cond (eqb op 1) (Some (Direct (PowerUp a)))
+    (cond (eqb op 2) (Some (Direct Reset))
+    (cond (ltb op 10) (Some (Direct (Wide (wide_of op a))))
     (cond (ltb op 128) (setting_item op ch a)
-    (cond (ltb op 157) (Asked (Direct (On ch (channel_of op a b)))) (register_item op a b))))))
+    (cond (ltb op 157) (Some (Direct (On ch (channel_of op a b)))) (register_item op a b))))))

@@ -7,17 +7,17 @@ use native.Mathlib.Omega.{arith}
 use native.Mathlib.Numerals.{add-one}
 use Rattle.registers.specs.Access.{access_answer}
 use Rattle.calls.specs.Performed.{item_after}
-use Rattle.items.specs.declared.Item.{Item}
-use Rattle.items.specs.declared.Item.TheVariants.{NoCall, Asked}
+use Rattle.std.proofs.Common.{Option, None, Some}
+use Rattle.registers.specs.declared.accesses.Access.{Access}
 use Rattle.sessions.specs.Sessions.{item_bytes, item_at, performed}
 use Rattle.following.specs.Course.{held_before}
 use Rattle.following.specs.declared.course.Watch.{Watch}
 use Rattle.following.proofs.Held.{held_next}
 use Rattle.reasons.specs.Followed.{followed, followed_to}
 
-item_held : (i : Item) (ch place at : ℕ) (m : List ℕ) (w : Watch) → held_before (followed i ch place at m w).course ≤ suc (held_before w.course)
-item_held NoCall ch place at m w = omega arith
-item_held (Asked x) ch place at m w = held_next ch place at x (access_answer x m) w
+item_held : (i : Option Access) (ch place at : ℕ) (m : List ℕ) (w : Watch) → held_before (followed i ch place at m w).course ≤ suc (held_before w.course)
+item_held None ch place at m w = omega arith
+item_held (Some x) ch place at m w = held_next ch place at x (access_answer x m) w
 
 pub held_to : (n : ℕ) (bytes : List ℕ) (ch place : ℕ) (m : List ℕ) → held_before (followed_to n bytes ch place m).course ≤ n
 held_to zero bytes ch place m = omega arith

@@ -18,11 +18,10 @@ use Rattle.frame.specs.Layout.{need, block}
 use Rattle.power.specs.Power.{power_refusal, power_after}
 use Rattle.module.specs.OnChannel.{on_refusal, given_of, on_answer}
 use Rattle.module.specs.declared.calls.Call.TheVariants.{PowerUp, On}
+use Rattle.std.proofs.Common.{Option, None, Some}
 use Rattle.registers.specs.Access.{access_answer, access_after}
 use Rattle.registers.specs.declared.accesses.Access.{Access}
 use Rattle.registers.specs.declared.accesses.Access.TheVariants.{Direct}
-use Rattle.items.specs.declared.Item.{Item}
-use Rattle.items.specs.declared.Item.TheVariants as item
 use Rattle.items.proofs.Table.{channel_rows}
 use Rattle.calls.specs.Performed.{item_after}
 use Rattle.sessions.specs.Sessions.{item_bytes, item_at, performed}
@@ -60,10 +59,10 @@ module _ (count : ℕ) (bytes m : List ℕ) (size : length m ≡ need count) whe
     is : run m (accesses_to count bytes n) ≡ performed n bytes powered
     long : length (performed n bytes powered) ≡ need count
 
-  runs-next : (n : ℕ) → Runs n → (i : Item)
+  runs-next : (n : ℕ) → Runs n → (i : Option Access)
       → (run m (joined (need count) i (accesses_to count bytes n)) ≡ item_after i (performed n bytes powered)) × (length (item_after i (performed n bytes powered)) ≡ need count)
-  runs-next n r item.NoCall = (r.is, r.long)
-  runs-next n r (item.Asked x) = (
+  runs-next n r None = (r.is, r.long)
+  runs-next n r (Some x) = (
     ap (lent (need count) x) r.is ∙ lent-whole (need count) x (performed n bytes powered) r.long,
     (untouched x (performed n bytes powered)).as_long ∙ r.long,
   )
@@ -94,7 +93,7 @@ calls_below (suc n) k bytes h e = go (eqb k (suc n)) refl (λ l. calls_below n k
     go true q r = rw (eqb-true k (suc n) q) e
     go false q r = let d : k ≡ suc n → ⊥ = eqb-false k (suc n) q in r (omega (arith, h, d))
 
-arrival_item : (bytes : List ℕ) (at : ℕ) → word_at bytes at ≡ arrive → item_at bytes at ≡ item.Asked (Direct (On (word_at bytes (at + 4)) (Receive (Arrive (word_at bytes (at + 8))))))
+arrival_item : (bytes : List ℕ) (at : ℕ) → word_at bytes at ≡ arrive → item_at bytes at ≡ Some (Direct (On (word_at bytes (at + 4)) (Receive (Arrive (word_at bytes (at + 8))))))
 unfolding item_at
 arrival_item bytes at e = rw e (channel_rows (word_at bytes (at + 4)) (word_at bytes (at + 8)) (word_at bytes (at + 12))).0
 
@@ -137,7 +136,7 @@ module _ (count : ℕ) (bytes : List ℕ) (place : ℕ) (m : List ℕ) (size : l
     abbrev ts : List Telling
     ts = told_to count bytes m n
 
-    abbrev Next : Item → Type 0
+    abbrev Next : Option Access → Type 0
     Next i =
         (length (told_by m (joined (need count) i (accesses_to count bytes n))) ≡ suc (suc n))
         × Tracks given ch (suc place) (told_by m (joined (need count) i (accesses_to count bytes n))) (followed i ch place (n + 1) (performed n bytes m₁) w)
@@ -151,25 +150,25 @@ module _ (count : ℕ) (bytes : List ℕ) (place : ℕ) (m : List ℕ) (size : l
 
     -- the same watch, by the memory that the code has
     by_memory : (x : Access) (ts' : List Telling) → Tracks given ch (suc place) ts' (next ch place (call_place (suc (length ts))) x (answered x) w)
-        → Tracks given ch (suc place) ts' (followed (item.Asked x) ch place (n + 1) (performed n bytes m₁) w)
+        → Tracks given ch (suc place) ts' (followed (Some x) ch place (n + 1) (performed n bytes m₁) w)
     by_memory x ts' t =
         subst (λ (b : Answer). Tracks given ch (suc place) ts' (next ch place (n + 1) x b w)) (answer_is count bytes m size n x)
         (subst (λ (p : ℕ). Tracks given ch (suc place) ts' (next ch place p x (answered x) w)) here t)
 
-    another : (x : Access) → (suc n ≡ place → ⊥) → Next (item.Asked x)
+    another : (x : Access) → (suc n ≡ place → ⊥) → Next (Some x)
     another x other = (
       ap suc a.long,
       by_memory x (tells x (answered x) ∷ ts) (passes given ch place ts w a.tracks x (answered x) (λ e. other (sym a.long ∙ e))),
     )
 
-    by_item : (suc n ≡ place → ⊥) → (i : Item) → is_call i ≡ true → Next i
-    by_item other item.NoCall c = absurd (true≢false (sym c))
-    by_item other (item.Asked x) c = another x other
+    by_item : (suc n ≡ place → ⊥) → (i : Option Access) → is_call i ≡ true → Next i
+    by_item other None c = absurd (true≢false (sym c))
+    by_item other (Some x) c = another x other
 
     abbrev arrival : Access
     arrival = Direct (On ch (Receive (Arrive (arriving_at bytes place))))
 
-    the_arrival : suc n ≡ place → Next (item.Asked arrival)
+    the_arrival : suc n ≡ place → Next (Some arrival)
     the_arrival e =
         let before : place - 1 ≡ n = omega (arith, e) in
         let is : given ≡ answered arrival = ap (λ (k : ℕ). answer_behind m (accesses_to count bytes k) (need count) arrival) before in

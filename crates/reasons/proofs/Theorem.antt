@@ -10,8 +10,7 @@ use lib.Seq.{length-take-le}
 use Rattle.frame.specs.Layout.{need}
 use Rattle.power.specs.Power.{power_refusal}
 use Rattle.registers.specs.declared.accesses.Access.{Access}
-use Rattle.items.specs.declared.Item.{Item}
-use Rattle.items.specs.declared.Item.TheVariants.{NoCall, Asked}
+use Rattle.std.proofs.Common.{Option, None, Some, Ok}
 use Rattle.sessions.specs.Sessions.{item_bytes, item_at}
 use Rattle.fates.specs.Theorem.{Started}
 use Rattle.following.specs.Follows.{Explains}
@@ -19,22 +18,21 @@ use Rattle.following.proofs.Unique.{unique}
 use Rattle.reasons.specs.Question as question
 use Rattle.reasons.specs.Explained.{joined, accesses_to, working, reason_for, explained}
 use Rattle.reasons.specs.Theorem.{told, answer, AlwaysOneReason}
-use Rattle.reasons.specs.declared.Explained.{Explained}
 use Rattle.reasons.proofs.Refusing.{accepted, asked}
 use Rattle.reasons.proofs.Reason.{reason_is}
 
 -- the list starts with an accepted power-up
-started_more : (m : List ℕ) (k : ℕ) (i : Item) (before : List (ℕ × Access)) → Started m before → Started m (joined k i before)
-started_more m k NoCall before s = s
-started_more m k (Asked x) [] s = absurd s
-started_more m k (Asked x) (y ∷ before) s = s
+started_more : (m : List ℕ) (k : ℕ) (i : Option Access) (before : List (ℕ × Access)) → Started m before → Started m (joined k i before)
+started_more m k None before s = s
+started_more m k (Some x) [] s = absurd s
+started_more m k (Some x) (y ∷ before) s = s
 
 started_to : (count : ℕ) (bytes m : List ℕ) → power_refusal count (length (take (need count) m)) ≡ 0 → (n : ℕ) → Started m (accesses_to count bytes n)
 started_to count bytes m e zero = rw (eq-eqb _ 0 e) refl
 started_to count bytes m e (suc n) = started_more m (need count) (item_at bytes (item_bytes * n)) (accesses_to count bytes n) (started_to count bytes m e n)
 
 module _ (count : ℕ) (bytes : List ℕ) (place : ℕ) (m : List ℕ) (e : question.question_refusal count bytes place (length m) ≡ 0) where
-  is_given : explained count bytes place m ≡ record { number = 0; reason = reason_for count bytes place (working count m) }
+  is_given : explained count bytes place m ≡ Ok (reason_for count bytes place (working count m))
   unfolding explained
   is_given = rw (eq-eqb (question.question_refusal count bytes place (length m)) 0 e) refl
 
@@ -47,13 +45,9 @@ always_one_reason count bytes place m e =
     record {
       started =
           started_to count bytes (working count m) (accepted count q.1.some q.1.most (length (take (need count) (working count m))) again) (question.whole_count bytes);
-      accepted = ap (λ (x : Explained). x.number) (is_given count bytes place m e);
+      reason = reason_for count bytes place (working count m);
+      accepted = is_given count bytes place m e;
       explains =
-          subst (Explains (answer count bytes place m) (question.channel_at bytes place) (suc place) (told count bytes place m))
-          (r.is ∙ sym (ap (λ (x : Explained). x.reason) (is_given count bytes place m e)))
-          r.explains;
-      no_other =
-          λ other x.
-          unique (answer count bytes place m) (question.channel_at bytes place) (suc place) (told count bytes place m) other x
-          ∙ sym (ap (λ (x : Explained). x.reason) (is_given count bytes place m e));
+          subst (Explains (answer count bytes place m) (question.channel_at bytes place) (suc place) (told count bytes place m)) r.is r.explains;
+      no_other = λ other x. unique (answer count bytes place m) (question.channel_at bytes place) (suc place) (told count bytes place m) other x;
     }

@@ -1,6 +1,6 @@
 -- "The rules, with exactly the memory that count needs, must give that reason" (paper 02, (viii)): the answer to a question, and the working
 -- memory afterwards.
-use Rattle.std.specs.Prelude.{ℕ, zero, suc, ◌*◌, ◌-◌, List, [], ◌∷◌, ◌++◌, cond, eqb, length, take, drop}
+use Rattle.std.specs.Prelude.{ℕ, zero, suc, ◌*◌, ◌-◌, List, [], ◌∷◌, ◌++◌, cond, eqb, length, take, drop, Option, None, Some, Result, Ok, Err}
 use Rattle.block.specs.Refusals.{leave_unless}
 use Rattle.channel_calls.specs.declared.calls.ReceiveCall.TheVariants.{Arrive}
 use Rattle.channel_calls.specs.declared.calls.ChannelCall.TheVariants.{Receive}
@@ -9,8 +9,6 @@ use Rattle.frame.specs.Layout.{need}
 use Rattle.module.specs.declared.calls.Call.TheVariants.{PowerUp, On}
 use Rattle.registers.specs.declared.accesses.Access.{Access}
 use Rattle.registers.specs.declared.accesses.Access.TheVariants.{Direct}
-use Rattle.items.specs.declared.Item.{Item}
-use Rattle.items.specs.declared.Item.TheVariants.{NoCall, Asked}
 use Rattle.sessions.specs.Sessions.{item_bytes, item_at}
 use Rattle.fates.specs.Run.{run, answer_behind, told_by}
 use Rattle.fates.specs.History.{Telling}
@@ -18,12 +16,11 @@ use Rattle.following.specs.Reasons.{reason_of}
 use Rattle.following.specs.declared.course.Reason.{Reason}
 use Rattle.following.specs.declared.course.Reason.TheVariants.{NoReason, RefusedBy, ReceiverOff, FilteredOut, DroppedOnFull, ListedAlready, StillHeld, ReadAt, ClearedAt, OverwrittenAt}
 use Rattle.reasons.specs.Question.{whole_count, channel_at, arriving_at, question_refusal}
-use Rattle.reasons.specs.declared.Explained.{Explained}
 
 -- one item more, lent k words; an item that is no call is refused before (42)
-abbrev pub joined : ℕ → Item → List (ℕ × Access) → List (ℕ × Access)
-joined k NoCall before = before
-joined k (Asked x) before = (k, x) ∷ before
+abbrev pub joined : ℕ → Option Access → List (ℕ × Access) → List (ℕ × Access)
+joined k None before = before
+joined k (Some x) before = (k, x) ∷ before
 
 module _ (count : ℕ) (bytes : List ℕ) where
   -- "the list of calls since power-up", the latest first: the first n items behind that power-up, each lent the words that count needs
@@ -66,12 +63,12 @@ beside (ReadAt p) = p
 beside (ClearedAt p) = p
 beside (OverwrittenAt p) = p
 
--- the answer: the refusal's number, or 0 and the reason
-unfoldable pub explained : ℕ → List ℕ → ℕ → List ℕ → Explained
+-- the answer: the reason, or the refusal's number
+unfoldable pub explained : ℕ → List ℕ → ℕ → List ℕ → Result Reason ℕ
 explained count bytes place m =
     cond (eqb (question_refusal count bytes place (length m)) 0)
-    (record { number = 0; reason = reason_for count bytes place (working count m) })
-    (record { number = question_refusal count bytes place (length m); reason = NoReason })
+    (Ok (reason_for count bytes place (working count m)))
+    (Err (question_refusal count bytes place (length m)))
 
 -- the words behind those that count needs stay; a refusal changes nothing
 unfoldable pub memory_after : ℕ → List ℕ → ℕ → List ℕ → List ℕ

@@ -1,3 +1,4 @@
+pub mod Refusals
 pub mod Question
 pub mod Followed
 pub mod Explained

@@ -1,12 +1,11 @@
 -- A question: a channel count, a list of call items as bytes, the place of an arrival in it and words of working memory; and when it is
 -- refused (paper 02, (viii)).
-use Rattle.std.specs.Prelude.{ℕ, zero, suc, ◌+◌, ◌*◌, ◌-◌, ◌/◌, ◌%◌, ◌≤◌, ◌≡◌, List, Bool, true, false, cond, ◌&&◌, eqb, ltb, length}
+use Rattle.std.specs.Prelude.{ℕ, zero, suc, ◌+◌, ◌*◌, ◌-◌, ◌/◌, ◌%◌, ◌≤◌, ◌≡◌, List, Bool, true, false, cond, ◌&&◌, eqb, ltb, length, Option, None, Some}
 use Rattle.little_endian.specs.LittleEndian.{word_at}
 use Rattle.block.specs.Refusals.{first}
 use Rattle.frame.specs.Layout.{most}
 use Rattle.power.specs.Power.{power_refusal}
-use Rattle.items.specs.declared.Item.{Item}
-use Rattle.items.specs.declared.Item.TheVariants as item
+use Rattle.registers.specs.declared.accesses.Access.{Access}
 use Rattle.sessions.specs.Sessions.{item_bytes, item_at}
 
 -- "a list above 4,096 calls"
@@ -35,9 +34,9 @@ module _ (bytes : List ℕ) where
   abbrev pub arriving_at : ℕ → ℕ
   arriving_at place = word_at bytes (index_at place + 8)
 
-abbrev pub is_call : Item → Bool
-is_call item.NoCall = false
-is_call (item.Asked x) = true
+abbrev pub is_call : Option Access → Bool
+is_call None = false
+is_call (Some x) = true
 
 -- the first n items are calls
 abbrev pub calls_to : ℕ → List ℕ → Bool

@@ -1,5 +1,5 @@
 -- "The rules .. must give that reason, and an arrival always gets one" (paper 02, (viii)).
-use Rattle.std.specs.Prelude.{ℕ, suc, ◌≡◌, List, length}
+use Rattle.std.specs.Prelude.{ℕ, suc, ◌≡◌, List, length, Ok}
 use Rattle.channel_calls.specs.Answer.{Answer}
 use Rattle.fates.specs.History.{Telling}
 use Rattle.fates.specs.Theorem.{Started}
@@ -19,11 +19,12 @@ module _ (count : ℕ) (bytes : List ℕ) (place : ℕ) (m : List ℕ) where
   pub record OneReason : Type 0 where
     -- demand 3 speaks of this list: "The first is an accepted power-up."
     pub started : Started (working count m) (accesses_to count bytes (whole_count bytes))
-    pub accepted : (explained count bytes place m).number ≡ 0
+    pub reason : Reason
+    pub accepted : explained count bytes place m ≡ Ok reason
     -- the reason is one of the nine, and what it says was done: by the arrival's answer, or by the ledger of demand 3
-    pub explains : Explains answer (channel_at bytes place) (suc place) told (explained count bytes place m).reason
+    pub explains : Explains answer (channel_at bytes place) (suc place) told reason
     -- "say one reason": of no other does that hold
-    pub no_other : (r : Reason) → Explains answer (channel_at bytes place) (suc place) told r → r ≡ (explained count bytes place m).reason
+    pub no_other : (r : Reason) → Explains answer (channel_at bytes place) (suc place) told r → r ≡ reason
 
 -- every question that is not refused
 abbrev pub AlwaysOneReason : Type 0

@@ -3,12 +3,12 @@ ghost use Rattle.std.specs.Prelude.{◌≡◌, ◌+◌, ◌*◌, ◌/◌, ◌≤
 ghost use Rattle.sessions.specs.Sessions.{item_bytes, item_at};
 ghost use Rattle.reasons.specs.Question.{channel_at};
 
-use items::Item;
 use little_endian::word_at;
+use registers::accesses::Access;
 use sessions::ITEM_BYTES;
 
 // The item at an index.
-pub fn item_at(bytes: &[u8], at: usize) -> Item
+pub fn item_at(bytes: &[u8], at: usize) -> Option<Access>
     requires { at + item_bytes ≤ length bytes.now }
     ensures { result ≡ item_at bytes.now at }
 {

@@ -4,23 +4,20 @@
 ghost use Rattle.std.specs.Prelude.{◌≡◌, length};
 ghost use Rattle.frame.specs.Layout.{need};
 ghost use Rattle.reasons.specs.Question.{Asked};
-ghost use Rattle.reasons.specs.Explained.{beside, reason_for, state_after, memory_after};
+ghost use Rattle.reasons.specs.Explained.{beside, reason_for, state_after, explained, memory_after};
+ghost use Rattle.reasons.specs.Refusals.{numbered};
 
 use following::course::Reason;
 
 mod items_of;
 mod question;
+mod refusals;
 mod run;
+
+pub use refusals::Refusal;
 
 // The most items of a list.
 pub const MOST_ITEMS: usize = 4096;
-
-// The number of the question's refusal, or 0 with the reason.
-#[derive(Drop)]
-pub struct Explained {
-    pub number: u32,
-    pub reason: Reason,
-}
 
 // What stands beside a reason: the refusal's number, the place of the call that did it, or 0.
 pub fn beside(reason: Reason) -> u32
@@ -53,18 +50,12 @@ fn reason_for(count: u32, bytes: &[u8], place: u32, mem: &mut [u32]) -> Reason
 
 // Explains the arrival at a place, from 1, of the items behind an accepted power-up of `count` channels: any numbers, any bytes and any working
 // memory. A refused question leaves the memory as it was; a reason given leaves in it the state after the whole list.
-pub fn explain(count: u32, bytes: &[u8], place: u32, mem: &mut [u32]) -> Explained
-    ensures answer { result ≡ Rattle.reasons.specs.Explained.explained count bytes.now place mem.old }
+pub fn explain(count: u32, bytes: &[u8], place: u32, mem: &mut [u32]) -> Result<Reason, Refusal>
+    ensures answer { numbered result ≡ explained count bytes.now place mem.old }
     ensures after { mem.new ≡ memory_after count bytes.now place mem.old }
 {
-    let number = question::refusal(count, bytes, place, mem.len());
-    if number != 0 {
-        return Explained {
-            number,
-            reason: Reason::NoReason,
-        };
-    }
+    question::refusal(count, bytes, place, mem.len())?;
     let words = frame::layout::need(count);
     let reason = reason_for(count, bytes, place, &mut mem[..words]);
-    Explained { number: 0, reason }
+    Ok(reason)
 }

@@ -1,40 +1,34 @@
-// When a question is refused: 1 short, 4 range, 41 too many items, 42 an item that is no call, 40 no arrival's place; tested in this order,
-// 0 for none.
+// When a question is refused: the memory and the count first, then the number of items, each item and the place.
 ghost use Rattle.std.specs.Prelude.{◌≡◌, ◌+◌, ◌≤◌, length};
 ghost use Rattle.power.specs.Power.{power_refusal};
 ghost use Rattle.sessions.specs.Sessions.{item_bytes, item_at};
+ghost use Rattle.reasons.specs.Refusals.{refusal_number};
 ghost use Rattle.reasons.specs.Question.{is_call, are_calls, is_arrival, list_refusal, question_refusal};
 
-use crate::MOST_ITEMS;
 use crate::items_of::item_at;
-use calls::perform::NO_CALL;
+use crate::{MOST_ITEMS, Refusal};
 use frame::layout::{MOST, need};
-use items::Item;
 use little_endian::word_at;
 use sessions::ITEM_BYTES;
 
 // The op of an arrival.
 const ARRIVE: u32 = 128;
 
-// Too many items; no arrival's place.
-const TOO_MANY: u32 = 41;
-
-const NO_ARRIVAL: u32 = 40;
-
 // The refusal of the working memory or of the count, as at power-up.
-fn memory_refusal(count: u32, words: usize) -> u32
-    ensures { result ≡ power_refusal count words }
+#[tactic(auto, using(word::proofs::Branches::branches), unfolding(power::specs::Power::power_refusal))]
+fn memory_refusal(count: u32, words: usize) -> Result<(), Refusal>
+    ensures { refusal_number result ≡ power_refusal count words }
 {
     if count < 1 {
-        return 4;
+        return Err(Refusal::NoCount);
     }
     if MOST < count {
-        return 4;
+        return Err(Refusal::NoCount);
     }
     if words < need(count) {
-        return 1;
+        return Err(Refusal::TooShort);
     }
-    0
+    Ok(())
 }
 
 // Whether the item at an index is a call.
@@ -42,28 +36,23 @@ fn is_call(bytes: &[u8], at: usize) -> bool
     requires { at + item_bytes ≤ length bytes.now }
     ensures { result ≡ is_call (item_at bytes.now at) }
 {
-    let item = item_at(bytes, at);
-    match item {
-        Item::NoCall => false,
-        Item::Asked(_) => true,
-    }
+    item_at(bytes, at).is_some()
 }
 
 // Whether every item is a call; a cut one is none.
 fn are_calls(bytes: &[u8]) -> bool
     ensures { result ≡ are_calls bytes.now }
 {
-    let mut at = 0;
-    while ITEM_BYTES <= bytes.len() - at {
-        if !is_call(bytes, at) {
+    for done in 0..bytes.len() / ITEM_BYTES {
+        if !is_call(bytes, ITEM_BYTES * done) {
             return false;
         }
-        at += ITEM_BYTES;
     }
-    at == bytes.len()
+    bytes.len() % ITEM_BYTES == 0
 }
 
 // Whether the item at a place, from 1, is an arrival.
+#[tactic(auto, using(word::proofs::Branches::branches), unfolding(crate::specs::Question::is_arrival))]
 fn is_arrival(bytes: &[u8], place: u32) -> bool
     ensures { result ≡ is_arrival bytes.now place }
 {
@@ -77,28 +66,27 @@ fn is_arrival(bytes: &[u8], place: u32) -> bool
 }
 
 // The refusal of the list and the place.
-fn list_refusal(bytes: &[u8], place: u32) -> u32
-    ensures { result ≡ list_refusal bytes.now place }
+#[tactic(auto, using(crate::proofs::Lists::sizes), unfolding(crate::specs::Question::list_refusal))]
+fn list_refusal(bytes: &[u8], place: u32) -> Result<(), Refusal>
+    ensures { refusal_number result ≡ list_refusal bytes.now place }
 {
     if ITEM_BYTES * MOST_ITEMS < bytes.len() {
-        return TOO_MANY;
+        return Err(Refusal::TooManyItems);
     }
     if !are_calls(bytes) {
-        return NO_CALL;
+        return Err(Refusal::NoCall);
     }
     if !is_arrival(bytes, place) {
-        return NO_ARRIVAL;
+        return Err(Refusal::NoArrival);
     }
-    0
+    Ok(())
 }
 
 // The refusal of a question about a list, with so many words of working memory.
-pub fn refusal(count: u32, bytes: &[u8], place: u32, words: usize) -> u32
-    ensures { result ≡ question_refusal count bytes.now place words }
+#[tactic(auto, using(word::proofs::Branches::branches), unfolding(crate::specs::Question::question_refusal))]
+pub fn refusal(count: u32, bytes: &[u8], place: u32, words: usize) -> Result<(), Refusal>
+    ensures { refusal_number result ≡ question_refusal count bytes.now place words }
 {
-    let memory = memory_refusal(count, words);
-    if memory != 0 {
-        return memory;
-    }
+    memory_refusal(count, words)?;
     list_refusal(bytes, place)
 }

@@ -8,7 +8,6 @@ ghost use Rattle.reasons.specs.Followed.{followed, followed_to};
 
 use crate::items_of::item_at;
 use following::course::Watch;
-use items::Item;
 use sessions::ITEM_BYTES;
 
 // Performs the item behind `done` others, and follows the arrival on.
@@ -17,10 +16,9 @@ fn follow(mem: &mut [u32], bytes: &[u8], done: u32, channel: u32, place: u32, wa
     ensures answer { result ≡ followed (item_at bytes.now (item_bytes * done)) channel place (done + 1) mem.old watch }
     ensures after { mem.new ≡ item_after (item_at bytes.now (item_bytes * done)) mem.old }
 {
-    let item = item_at(bytes, ITEM_BYTES * (done as usize));
-    match item {
-        Item::NoCall => watch,
-        Item::Asked(access) => {
+    match item_at(bytes, ITEM_BYTES * (done as usize)) {
+        None => watch,
+        Some(access) => {
             let answer = registers::perform::perform(mem, access);
             following::course::next(watch, channel, place, done + 1, access, answer)
         }
@@ -33,11 +31,10 @@ pub fn run(mem: &mut [u32], bytes: &[u8], channel: u32, place: u32) -> Watch
     ensures answer { result ≡ followed_to (length bytes.now / item_bytes) bytes.now channel place mem.old }
     ensures after { mem.new ≡ performed (length bytes.now / item_bytes) bytes.now mem.old }
 {
+    let whole = (bytes.len() / ITEM_BYTES) as u32;
     let mut watch = following::course::begun();
-    let mut done = 0;
-    while (done as usize) < bytes.len() / ITEM_BYTES {
+    for done in 0..whole {
         watch = follow(mem, bytes, done, channel, place, watch);
-        done += 1;
     }
     watch
 }

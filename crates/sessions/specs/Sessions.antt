@@ -1,16 +1,16 @@
 -- A session: a list of items as bytes, and the memory after it.
-use Rattle.std.specs.Prelude.{ℕ, zero, suc, ◌+◌, ◌*◌, List}
+use Rattle.std.specs.Prelude.{ℕ, zero, suc, ◌+◌, ◌*◌, List, Option}
 use Rattle.little_endian.specs.LittleEndian.{word_at}
 use Rattle.items.specs.Items.{decoded}
 use Rattle.calls.specs.Performed.{item_after}
-use Rattle.items.specs.declared.Item.{Item}
+use Rattle.registers.specs.declared.accesses.Access.{Access}
 
 -- the bytes of an item
 abbrev pub item_bytes : ℕ
 item_bytes = 16
 
 -- the item at an index: the words op, channel, a and b
-unfoldable pub item_at : List ℕ → ℕ → Item
+unfoldable pub item_at : List ℕ → ℕ → Option Access
 item_at bytes at = decoded (word_at bytes at) (word_at bytes (at + 4)) (word_at bytes (at + 8)) (word_at bytes (at + 12))
 
 -- the memory after the first n items in order

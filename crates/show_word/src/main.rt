@@ -4,104 +4,88 @@
 
 ghost use Rattle.std.specs.Prelude.{◌≤◌, length};
 
+use std::io;
 use std::io::Write;
 use word_text::Line;
 
-// Writes a number in octal, three digits, as a label is listed.
-fn print_label(out: &mut impl Write, label: u8) {
-    let digits = [b'0' + label / 64, b'0' + label / 8 % 8, b'0' + label % 8];
-    streams::write_all(out, &digits);
-}
+// The most bytes of a line that may be a word.
+const ROOM: usize = 4096;
 
-// One line: the word, its label, SDI, index and parity, and the word as it goes out with parity on.
-fn show(out: &mut impl Write, word: u32) {
-    streams::write_all(out, b"word ");
-    streams::print_hex(out, word);
-    streams::write_all(out, b"  label ");
-    print_label(out, word::label(word));
-    streams::write_all(out, b"  SDI ");
-    streams::print_decimal(out, word::sdi(word) as u64);
-    streams::write_all(out, b"  index ");
-    streams::print_decimal(out, word::index(word) as u64);
-    if word::is_in_error(word) {
-        streams::write_all(out, b"  parity error  as sent ");
+// One line: the word, its label in octal, SDI, index and parity, and the word as it goes out with parity on.
+fn show(out: &mut impl Write, word: u32) -> io::Result<()> {
+    let label = word::label(word);
+    let sdi = word::sdi(word);
+    let index = word::index(word);
+    let parity = if word::is_in_error(word) {
+        "error"
     } else {
-        streams::write_all(out, b"  parity right  as sent ");
-    }
-    streams::print_hex(out, word::with_odd_parity(word));
-    streams::write_all(out, b"\n");
+        "right"
+    };
+    let sent = word::with_odd_parity(word);
+    writeln!(
+        out,
+        "word {word:08x}  label {label:03o}  SDI {sdi}  index {index}  parity {parity}  as sent {sent:08x}",
+    )
 }
 
-fn say_no_word(out: &mut impl Write, number: u64) {
-    streams::write_all(out, b"line ");
-    streams::print_decimal(out, number);
-    streams::write_all(out, b": no word\n");
-}
-
-// The line that is being read: its number from 1, how many of its bytes are kept, and whether it has more than there is room for: then it is no
-// word.
-#[derive(Clone, Copy)]
+// The line that is being read: its number from 1, its bytes as far as they are kept, and whether it has more than there is room for: then it is
+// no word.
+#[derive(Drop)]
 struct Reading {
     number: u64,
+    bytes: [u8; ROOM],
     kept: usize,
     longer: bool,
+    ghost in_room: { kept ≤ length bytes },
 }
 
-// The line ends here: it is shown, or named.
-fn end_line(out: &mut impl Write, line: &[u8], reading: Reading)
-    requires { reading.kept ≤ length line.now }
-{
-    let kept = reading.kept;
-    if reading.longer {
-        say_no_word(out, reading.number);
-        return;
-    }
-    match word_text::hex_word(&line[..kept]) {
-        Line::Word(word) => show(out, word),
-        Line::NoWord => say_no_word(out, reading.number),
-        Line::Blank => {}
-    }
-}
-
-// The next byte of the text.
-fn take(out: &mut impl Write, line: &mut [u8], reading: Reading, byte: u8) -> Reading
-    requires { reading.kept ≤ length line.old }
-    ensures { result.kept ≤ length line.old }
-{
-    if byte == b'\n' {
-        end_line(out, line, reading);
-        return Reading {
-            number: reading.number.wrapping_add(1),
-            kept: 0,
-            longer: false,
-        };
-    }
-    let kept = reading.kept;
-    if kept == line.len() {
-        return Reading {
-            number: reading.number,
-            kept,
-            longer: true,
-        };
-    }
-    line[kept] = byte;
+fn begun() -> Reading {
     Reading {
-        number: reading.number,
-        kept: kept + 1,
+        number: 1,
+        bytes: [0; ROOM],
+        kept: 0,
         longer: false,
     }
 }
 
-// A line may go on behind the end of a part of the text.
-fn take_all(out: &mut impl Write, line: &mut [u8], reading: Reading, text: &[u8]) -> Reading
-    requires { reading.kept ≤ length line.old }
-    ensures { result.kept ≤ length line.old }
-{
-    let mut reading = reading;
-    for byte in text {
-        reading = take(out, line, reading, *byte);
+impl Reading {
+    fn say_no_word(&self, out: &mut impl Write) -> io::Result<()> {
+        writeln!(out, "line {}: no word", self.number)
     }
-    reading
+
+    // The line ends here: it is shown, or named.
+    fn end(&self, out: &mut impl Write) -> io::Result<()> {
+        if self.longer {
+            return self.say_no_word(out);
+        }
+        match word_text::hex_word(&self.bytes[..self.kept]) {
+            Line::Word(word) => show(out, word),
+            Line::NoWord => self.say_no_word(out),
+            Line::Blank => Ok(()),
+        }
+    }
+
+    // The next byte of the text.
+    fn take(&mut self, out: &mut impl Write, byte: u8) {
+        if byte == b'\n' {
+            let _ = self.end(out);
+            self.number = self.number.wrapping_add(1);
+            self.kept = 0;
+            self.longer = false;
+        } else if self.kept == self.bytes.len() {
+            self.longer = true;
+        } else {
+            self.bytes[self.kept] = byte;
+            self.kept += 1;
+        }
+    }
+
+    // A line may go on behind the end of a part of the text.
+    fn take_all(&mut self, out: &mut impl Write, text: &[u8]) {
+        for byte in text {
+            self.take(out, *byte);
+        }
+    }
 }
 
 // The loop has more turns than a run uses up.
@@ -109,18 +93,13 @@ fn main(rt: HostRuntime) {
     let mut input = rt.stdin();
     let mut out = rt.stdout();
     let mut buffer = streams::buffer();
-    let mut line = [0; 4096];
-    let mut reading = Reading {
-        number: 1,
-        kept: 0,
-        longer: false,
-    };
+    let mut reading = begun();
     for _ in 0..u64::MAX {
         let n = streams::read_full(&mut input, &mut buffer);
-        reading = take_all(&mut out, &mut line, reading, &buffer[..n]);
+        reading.take_all(&mut out, &buffer[..n]);
         if n < buffer.len() {
             break;
         }
     }
-    end_line(&mut out, &line, reading);
+    let _ = reading.end(&mut out);
 }

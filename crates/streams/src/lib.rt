@@ -17,6 +17,9 @@ pub fn buffer() -> [u8; 4096]
     [0; 4096]
 }
 
+// A program loops over its input itself: a function that was given what to do with each part would require that this may always be called, and no
+// function here requires anything.
+
 // Reads until the buffer is full, the input ends or a read fails, and answers how many bytes stand at the buffer's start.
 pub fn read_full<R: Read>(input: &mut R, buffer: &mut [u8]) -> usize
     ensures within { result ≤ length buffer.new }
@@ -37,6 +40,8 @@ pub fn read_full<R: Read>(input: &mut R, buffer: &mut [u8]) -> usize
     }
     done
 }
+
+// A write answers true or false, and not why it failed: no program goes another way by it.
 
 // Writes all of the bytes and answers true, or stops at the first write that takes none or fails, with some of them written.
 pub fn write_all<W: Write>(out: &mut W, bytes: &[u8]) -> bool
@@ -84,10 +89,8 @@ pub fn hex(number: u32) -> [u8; 8]
 {
     let mut digits = [0u8; 8];
     let mut rest = number;
-    let mut left = 8;
-    while left > 0 {
-        left -= 1;
-        digits[left] = hex_digit(rest % 16);
+    for place in (0..digits.len()).rev() {
+        digits[place] = hex_digit(rest % 16);
         rest /= 16;
     }
     digits

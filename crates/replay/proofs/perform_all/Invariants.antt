@@ -1,10 +1,7 @@
--- The items before the offset are performed.
-use Rattle.std.proofs.Common.{◌≡◌, ◌≤◌, ◌-◌, ◌*◌, ◌/◌, length}
-use Rattle.sessions.specs.Sessions.{item_bytes, performed}
+-- The items before this one are performed.
+use Rattle.std.proofs.Common.{◌≡◌}
+use Rattle.sessions.specs.Sessions.{performed}
 use Rattle.replay.proofs.perform_all.Given as goal
 
-abbrev pub invariant-loop-at : goal.invariant-loop-at
-invariant-loop-at g l = (l.at ≤ length l.bytes) × (l.at ≡ item_bytes * (l.at / item_bytes)) × (l.mem ≡ performed (l.at / item_bytes) l.bytes l.initial.mem)
-
-abbrev pub decreases-loop-at : goal.decreases-loop-at
-decreases-loop-at g l = length l.bytes - l.at
+abbrev pub invariant-loop-done : goal.invariant-loop-done
+invariant-loop-done g l = l.mem ≡ performed l.done l.bytes l.initial.mem

@@ -25,10 +25,9 @@ step (suc j) k rest g out some h room e =
     ∙ ap (λ (x : ℕ). todo ++ x ∷ done) e
     ∙ sym (append_snoc todo (hex_glyph (rest % 16)) done)
 
-pub loop-left-preserved : goal.loop-left-preserved
-loop-left-preserved c =
-    let l = c.loop-left in (
+pub loop-place-preserved : goal.loop-place-preserved
+loop-place-preserved c =
+    let l = c.loop-place in (
       simp length-set l.invariant.0,
-      omega arith,
-      step l.left 8 l.rest c.hex_digit.result l.digits c.loop-left-test.true l.invariant.1 (omega arith) c.hex_digit.ensures ∙ l.invariant.2,
+      step l.place 8 l.rest c.hex_digit.result l.digits c.loop-place-test.true l.auto.place (omega arith) c.hex_digit.ensures ∙ l.invariant.1,
     )
