@@ -19,8 +19,7 @@ use Rattle.register_map.specs.Turned.{read_of, read_turned, write_of, write_turn
 use Rattle.registers.specs.Masked.{control_call}
 use Rattle.register_map.specs.declared.map.Control.{Control}
 use Rattle.register_map.specs.declared.map.Control.TheVariants.{TriggerEach, PauseEach, StopEach}
-use Rattle.register_map.specs.declared.map.Register.{Register}
-use Rattle.register_map.specs.declared.map.Register.TheVariants.{NoRegister, RateOf, AsyncOf, StatusOf, ScheduleOf, MessageOf, ControlOf}
+use Rattle.register_map.specs.Registers.{Register, NoRegister, RateOf, AsyncOf, StatusOf, ScheduleOf, MessageOf, ControlOf}
 use Rattle.register_map.specs.Turns.{Turned, NotTurned, OneCall, EachNamed}
 
 -- ---- calls that change nothing that a history keeps

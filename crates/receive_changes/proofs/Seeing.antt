@@ -31,8 +31,7 @@ use Rattle.register_map.specs.Map.{bytes, register_at}
 use Rattle.register_map.specs.Turned.{write_of, write_turned}
 use Rattle.registers.specs.declared.accesses.Access.{Access}
 use Rattle.registers.specs.declared.accesses.Access.TheVariants.{Direct, ReadRegister, WriteRegister}
-use Rattle.register_map.specs.declared.map.Register.{Register}
-use Rattle.register_map.specs.declared.map.Register.TheVariants.{NoRegister, RateOf, AsyncOf, StatusOf, ScheduleOf, MessageOf, ControlOf}
+use Rattle.register_map.specs.Registers.{Register, NoRegister, RateOf, AsyncOf, StatusOf, ScheduleOf, MessageOf, ControlOf}
 use Rattle.register_map.specs.Turns.{Turned, NotTurned, OneCall, EachNamed}
 use Rattle.fates.specs.History.{History, Telling, Silent, Performed, write_tells, tells, effect_on, history}
 use Rattle.receive_changes.specs.Changes.{happening, left, by_mode, by_setting, by_outcome, by_arrival, by_read, on_called, by_call, by_access}

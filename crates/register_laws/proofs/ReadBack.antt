@@ -31,7 +31,7 @@ use Rattle.module_laws.proofs.Sane.{standing_part}
 use Rattle.module_laws.proofs.OnChannel.{on_within, on_call, on_word, on_same, on_standing, usable_after}
 use Rattle.register_map.specs.Shown.{shown, bits_of}
 use Rattle.register_laws.specs.ReadBack.{ReadsBack}
-use Rattle.register_map.specs.declared.map.Register.TheVariants.{RateOf, AsyncOf, ScheduleOf, MessageOf}
+use Rattle.register_map.specs.Registers.{RateOf, AsyncOf, ScheduleOf, MessageOf}
 use Rattle.register_map.specs.declared.shown.Bits.{Bits}
 use Rattle.register_map.specs.declared.shown.Bits.TheVariants.{AllBits, CommandBits}
 

@@ -11,8 +11,7 @@ use Rattle.frame.specs.Layout.{most}
 use Rattle.register_map.specs.Map.{bytes, rate_at, async_at, channel_step, status_at, status_step, schedule_at, message_at, ram_step, trigger_at, pause_at, stop_at, address_of, Stands, StandsAt, channel_in, place_at, masked_at, ram_at, register_at}
 use Rattle.register_map.specs.declared.map.Control.{Control}
 use Rattle.register_map.specs.declared.map.Control.TheVariants.{TriggerEach, PauseEach, StopEach}
-use Rattle.register_map.specs.declared.map.Register.{Register}
-use Rattle.register_map.specs.declared.map.Register.TheVariants.{NoRegister, RateOf, AsyncOf, StatusOf, ScheduleOf, MessageOf, ControlOf}
+use Rattle.register_map.specs.Registers.{Register, NoRegister, RateOf, AsyncOf, StatusOf, ScheduleOf, MessageOf, ControlOf}
 
 -- ---- the channels' registers of one kind
 

@@ -8,8 +8,7 @@ use Rattle.channel_calls.specs.declared.calls.ReadCall.TheVariants.{ReadAsync}
 use Rattle.channel_calls.specs.declared.calls.TransmitCall.TheVariants.{WriteAsync}
 use Rattle.channel_calls.specs.declared.calls.ChannelCall.TheVariants.{Settings, Memories, Status, Reads, Transmit}
 use Rattle.register_map.specs.Map.{bytes, register_at}
-use Rattle.register_map.specs.declared.map.Register.{Register}
-use Rattle.register_map.specs.declared.map.Register.TheVariants.{NoRegister, RateOf, AsyncOf, StatusOf, ScheduleOf, MessageOf, ControlOf}
+use Rattle.register_map.specs.Registers.{Register, NoRegister, RateOf, AsyncOf, StatusOf, ScheduleOf, MessageOf, ControlOf}
 use Rattle.register_map.specs.declared.shown.Bits.TheVariants.{AllBits, CommandBits, StatusBits}
 use Rattle.register_map.specs.Turns.{Turned, NotTurned, OneCall, EachNamed}
 

@@ -1,6 +1,7 @@
 // Which register stands at an address.
 ghost use Rattle.std.specs.Prelude.{◌≡◌, ◌*◌, ◌≤◌, ◌<◌};
 ghost use Rattle.frame.specs.Layout.{most};
+ghost use Rattle.register_map.specs.Registers.{found};
 ghost use Rattle.register_map.specs.Map.{channel_in, masked_at, ram_at, register_at};
 
 use frame::layout::MOST;
@@ -43,7 +44,6 @@ pub enum Control {
 
 #[derive(Drop)]
 pub enum Register {
-    NoRegister,
     // A channel, from 1.
     RateOf(u32),
     AsyncOf(u32),
@@ -54,7 +54,7 @@ pub enum Register {
     ControlOf(Control),
 }
 
-// The channel, from 1, at whose registers an address stands, 0 where it stands at none: `size` bytes from `first` on are channel 1's, and
+// The channel at whose registers an address stands. Channels are numbered from 1, and 0 is none, as in the definition: `size` bytes from `first` on are channel 1's, and
 // each further channel's stand a step behind.
 fn channel_in(address: u32, first: u32, step: u32, size: u32) -> u32
     requires { (0 < step) × (most * step ≤ 0xFFFF_FFFF) }
@@ -73,51 +73,51 @@ fn channel_in(address: u32, first: u32, step: u32, size: u32) -> u32
 }
 
 // The registers that take a channel mask.
-fn masked_at(address: u32) -> Register
-    ensures { result ≡ masked_at address }
+fn masked_at(address: u32) -> Option<Register>
+    ensures { found result ≡ masked_at address }
 {
     if address == TRIGGER {
-        return Register::ControlOf(Control::TriggerEach);
+        return Some(Register::ControlOf(Control::TriggerEach));
     }
     if address == PAUSE {
-        return Register::ControlOf(Control::PauseEach);
+        return Some(Register::ControlOf(Control::PauseEach));
     }
     if address == STOP {
-        return Register::ControlOf(Control::StopEach);
+        return Some(Register::ControlOf(Control::StopEach));
     }
-    Register::NoRegister
+    None
 }
 
 // The RAMs, and behind them the registers that take a channel mask.
-fn ram_at(address: u32) -> Register
-    ensures { result ≡ ram_at address }
+fn ram_at(address: u32) -> Option<Register>
+    ensures { found result ≡ ram_at address }
 {
     let schedule = channel_in(address, SCHEDULE, RAM_STEP, BYTES * COMMANDS);
     if schedule != 0 {
-        return Register::ScheduleOf(schedule, address % RAM_STEP / BYTES);
+        return Some(Register::ScheduleOf(schedule, address % RAM_STEP / BYTES));
     }
     let message = channel_in(address, MESSAGE, RAM_STEP, BYTES * MESSAGES);
     if message != 0 {
-        return Register::MessageOf(message, address % RAM_STEP / BYTES);
+        return Some(Register::MessageOf(message, address % RAM_STEP / BYTES));
     }
     masked_at(address)
 }
 
 // The register at an address.
-pub fn register_at(address: u32) -> Register
-    ensures { result ≡ register_at address }
+pub fn register_at(address: u32) -> Option<Register>
+    ensures { found result ≡ register_at address }
 {
     let rate = channel_in(address, RATE, CHANNEL_STEP, BYTES);
     if rate != 0 {
-        return Register::RateOf(rate);
+        return Some(Register::RateOf(rate));
     }
     let waiting = channel_in(address, ASYNC, CHANNEL_STEP, BYTES);
     if waiting != 0 {
-        return Register::AsyncOf(waiting);
+        return Some(Register::AsyncOf(waiting));
     }
     let status = channel_in(address, STATUS, STATUS_STEP, BYTES);
     if status != 0 {
-        return Register::StatusOf(status);
+        return Some(Register::StatusOf(status));
     }
     ram_at(address)
 }

@@ -1,5 +1,6 @@
 // What a register's read or write is turned into.
-ghost use Rattle.std.specs.Prelude.{◌≡◌};
+ghost use Rattle.std.specs.Prelude.{◌≡◌, Some};
+ghost use Rattle.register_map.specs.Registers.{found};
 ghost use Rattle.register_map.specs.Turns.{turned_to};
 ghost use Rattle.register_map.specs.Turned.{read_of, read_turned, write_of, write_turned};
 
@@ -19,10 +20,9 @@ pub enum Asked {
 }
 
 fn read_of(register: Register) -> Result<Asked, Refusal>
-    ensures { turned_to result ≡ read_of register }
+    ensures { turned_to result ≡ read_of (found (Some register)) }
 {
     match register {
-        Register::NoRegister => Err(Refusal::NoRegister),
         Register::RateOf(channel) => Ok(Asked::OneCall(
             channel,
             ChannelCall::Settings(SettingCall::ReadSetting(Setting::Rate)),
@@ -53,10 +53,9 @@ fn read_of(register: Register) -> Result<Asked, Refusal>
 }
 
 fn write_of(register: Register, value: u32) -> Result<Asked, Refusal>
-    ensures { turned_to result ≡ write_of register value }
+    ensures { turned_to result ≡ write_of (found (Some register)) value }
 {
     match register {
-        Register::NoRegister => Err(Refusal::NoRegister),
         Register::RateOf(channel) => Ok(Asked::OneCall(
             channel,
             ChannelCall::Settings(SettingCall::WriteSetting(Setting::Rate, value)),
@@ -89,7 +88,10 @@ pub fn read_turned(address: u32) -> Result<Asked, Refusal>
     if address % BYTES != 0 {
         return Err(Refusal::NotAligned);
     }
-    read_of(crate::map::register_at(address))
+    match crate::map::register_at(address) {
+        Some(register) => read_of(register),
+        None => Err(Refusal::NoRegister),
+    }
 }
 
 // A write of a value to an address.
@@ -99,5 +101,8 @@ pub fn write_turned(address: u32, value: u32) -> Result<Asked, Refusal>
     if address % BYTES != 0 {
         return Err(Refusal::NotAligned);
     }
-    write_of(crate::map::register_at(address), value)
+    match crate::map::register_at(address) {
+        Some(register) => write_of(register, value),
+        None => Err(Refusal::NoRegister),
+    }
 }

@@ -1,5 +1,5 @@
 // The entry for accesses.
-ghost use Rattle.std.specs.Prelude.{◌≡◌};
+ghost use Rattle.std.specs.Prelude.{◌≡◌, Ok};
 ghost use Rattle.channel_calls.specs.Answer.{answered};
 ghost use Rattle.register_map.specs.Turns.{turned_to};
 ghost use Rattle.registers.specs.Access.{turned_answer, turned_after, access_answer, access_after};
@@ -10,11 +10,11 @@ use channel_calls::calls::Reply;
 use register_map::turned::Asked;
 
 // Performs what a register access asks for.
-fn perform_turned(mem: &mut [u32], turned: Result<Asked, Refusal>) -> Result<Reply, Refusal>
-    ensures answer { answered result ≡ turned_answer (turned_to turned) mem.old }
-    ensures after { mem.new ≡ turned_after (turned_to turned) mem.old }
+fn perform_asked(mem: &mut [u32], asked: Asked) -> Result<Reply, Refusal>
+    ensures answer { answered result ≡ turned_answer (turned_to (Ok asked)) mem.old }
+    ensures after { mem.new ≡ turned_after (turned_to (Ok asked)) mem.old }
 {
-    match turned? {
+    match asked {
         Asked::OneCall(channel, call, bits) => {
             let reply = module::on_channel::on_channel(mem, channel, call)?;
             Ok(register_map::shown::shown(bits, reply))
@@ -31,10 +31,10 @@ pub fn perform(mem: &mut [u32], access: Access) -> Result<Reply, Refusal>
     match access {
         Access::Direct(call) => module::perform::perform(mem, call),
         Access::ReadRegister(address) => {
-            perform_turned(mem, register_map::turned::read_turned(address))
+            perform_asked(mem, register_map::turned::read_turned(address)?)
         }
         Access::WriteRegister(address, value) => {
-            perform_turned(mem, register_map::turned::write_turned(address, value))
+            perform_asked(mem, register_map::turned::write_turned(address, value)?)
         }
     }
 }

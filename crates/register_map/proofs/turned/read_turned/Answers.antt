@@ -8,6 +8,10 @@ pub returns-then-address-ne0 : goal.returns-then-address-ne0
 unfolding read_turned
 returns-then-address-ne0 c = search branches
 
-pub returns : goal.returns
+pub returns-in-Some : goal.returns-in-Some
 unfolding read_turned
-returns c = search (branches, c.read_of.ensures, c.register_at.ensures)
+returns-in-Some c = search (branches, c.read_of.ensures, ← c.in-Some.ensures)
+
+pub returns-in-None : goal.returns-in-None
+unfolding read_turned
+returns-in-None c = search (branches, ← c.in-None.ensures)

@@ -8,6 +8,10 @@ pub returns-then-address-ne0 : goal.returns-then-address-ne0
 unfolding write_turned
 returns-then-address-ne0 c = search branches
 
-pub returns : goal.returns
+pub returns-in-Some : goal.returns-in-Some
 unfolding write_turned
-returns c = search (branches, c.write_of.ensures, c.register_at.ensures)
+returns-in-Some c = search (branches, c.write_of.ensures, ← c.in-Some.ensures)
+
+pub returns-in-None : goal.returns-in-None
+unfolding write_turned
+returns-in-None c = search (branches, ← c.in-None.ensures)
