@@ -16,5 +16,5 @@ returns g c =
     let fits : s + n ≤ length c.args.block.now = (let j : s + n ≤ c.args.at + n * 255 = rw own at i in omega arith) in
     let part : s + n - s ≡ n = omega arith in
     let taken : take (s + n - s) (drop s c.args.block.now) ≡ oldest (of_width n c.args.at) c.args.block.now c.args.pos
-        = rw (part, own) (sym (words_part c.args.block.now s n fits)) in
+    = rw (part, own) (sym (words_part c.args.block.now s n fits)) in
     c.copy_from_slice.ensures.after ∙ taken
