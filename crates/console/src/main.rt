@@ -44,7 +44,7 @@ fn print_part(out: &mut impl Write, part: u32) {
     }
 }
 
-// A number in units, exactly.
+// A number in units, exactly: all its digits, which no format of an f64 promises.
 fn print_units(out: &mut impl Write, units: f64)
     requires { T (Ieee.in_signed binary64 63 (scaled units)) }
 {

@@ -10,7 +10,7 @@ pub fn is_minus(value: i64) -> bool
     value < 0
 }
 
-// What is left of a number without its sign: n for n and for -(n + 1).
+// What is left of a number without its sign: n for n and for -(n + 1). std has no `From` to numbers without a sign.
 pub fn magnitude(value: i32) -> u32
     ensures { result ≡ mag value }
 {
