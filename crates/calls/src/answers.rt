@@ -18,7 +18,7 @@ pub struct Numbers {
     pub words: [u32; 8],
 }
 
-// The number of an arrival's outcome.
+// The number of an arrival's outcome: a function of this name, since docs/PROMISES.md names it.
 pub fn outcome(arrival: Arrival) -> u32
     ensures { result ≡ outcome arrival }
 {

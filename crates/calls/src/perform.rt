@@ -6,7 +6,7 @@ ghost use Rattle.calls.specs.Performed.{item_numbers, item_after};
 
 use crate::answers::Numbers;
 
-// The answer's number of an item that is no call.
+// The answer's number of an item that is no call, as C and the programs have it.
 pub const NO_CALL: u32 = 42;
 
 // Performs an item's access and lists its answer: any memory and any words. An item that is no call changes nothing.

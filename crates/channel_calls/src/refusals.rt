@@ -9,7 +9,9 @@ ghost use Rattle.channel_calls.specs.Refusals.{above, below, setting_call_refusa
 use crate::calls::{
     ChannelCall, MemoryCall, ReceiveCall, Setting, SettingCall, StatusCall, TestCall, TransmitCall,
 };
-use block::layout::LAST_INDEX;
+use block::layout::{
+    ASYNC_MARK, LAST_INDEX, RECEIVE_LEVEL, TRANSMIT_LEVEL, TRANSMIT_MODE, TRANSMITTER,
+};
 use block::modes::SCHEDULED;
 use block::ranges::ALL_CONDITIONS;
 use block::refusal::Refusal;
@@ -36,7 +38,7 @@ fn below(limit: u32, x: u32, refusal: Refusal) -> Result<(), Refusal>
     Ok(())
 }
 
-// A setting's number.
+// A setting's number. A function with two clauses, since who writes or reads a setting needs the bound too.
 pub fn setting_number(setting: Setting) -> usize
     ensures value { result ≡ setting_number setting }
     ensures bound { result < settings }
@@ -117,7 +119,7 @@ fn receive_refusal(block: &[u32], call: ReceiveCall) -> Result<(), Refusal>
 {
     match call {
         ReceiveCall::Arrive(_) => Ok(()),
-        ReceiveCall::ReadFifo => below(1, block[block::layout::RECEIVE_LEVEL], Refusal::Empty),
+        ReceiveCall::ReadFifo => below(1, block[RECEIVE_LEVEL], Refusal::Empty),
         ReceiveCall::ReadMailbox(index) => above(LAST_INDEX, index, Refusal::Range),
     }
 }
@@ -127,12 +129,12 @@ fn transmit_refusal(block: &[u32], call: TransmitCall) -> Result<(), Refusal>
     ensures { number_of result ≡ transmit_call_refusal call block.now }
 {
     match call {
-        TransmitCall::WriteFifo(_) => above(LAST_SLOT, block[block::layout::TRANSMIT_LEVEL], Refusal::Full),
+        TransmitCall::WriteFifo(_) => above(LAST_SLOT, block[TRANSMIT_LEVEL], Refusal::Full),
         TransmitCall::WriteAsync(_) => {
-            below(SCHEDULED, block[block::layout::TRANSMIT_MODE], Refusal::Mode)?;
-            above(0, block[block::layout::ASYNC_MARK], Refusal::Full)
+            below(SCHEDULED, block[TRANSMIT_MODE], Refusal::Mode)?;
+            above(0, block[ASYNC_MARK], Refusal::Full)
         }
-        TransmitCall::Trigger => below(1, block[block::layout::TRANSMITTER], Refusal::Mode),
+        TransmitCall::Trigger => below(1, block[TRANSMITTER], Refusal::Mode),
         TransmitCall::Pause => Ok(()),
         TransmitCall::Stop => Ok(()),
         TransmitCall::Step => Ok(()),

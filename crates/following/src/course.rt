@@ -13,9 +13,10 @@ use registers::accesses::Access;
 // Why a word was not there. A place is that of the call that did it.
 #[derive(Clone, Copy)]
 pub enum Reason {
-    // No reason: no arrival, or none that was followed to its place.
+    // No reason: no arrival, or none that was followed to its place. No option in its stead: `explain` would answer one whose none never comes
+    // (`always_one_reason`).
     NoReason,
-    // The number of the arrival's refusal.
+    // The number of the arrival's refusal, as the reason's two numbers give it.
     RefusedBy(u32),
     ReceiverOff,
     FilteredOut,
@@ -163,7 +164,13 @@ fn arrived(course: Course, answer: Result<Reply, Refusal>) -> Course
     }
 }
 
-fn course_after(course: Course, happening: Happening, place: u32, at: u32, answer: Result<Reply, Refusal>) -> Course
+fn course_after(
+    course: Course,
+    happening: Happening,
+    place: u32,
+    at: u32,
+    answer: Result<Reply, Refusal>,
+) -> Course
     requires { held_before course < most_held }
     ensures { result ≡ Rattle.following.specs.Course.course_after course happening place at (answered answer) }
 {

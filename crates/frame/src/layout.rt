@@ -20,7 +20,8 @@ pub const LAYOUT: usize = COUNTERS + (MOST as usize);
 
 pub const LAYOUT_NUMBER: u32 = 2;
 
-// The words of the module part.
+// The words of the module part. Where a channel's block begins and ends is written out where it is lent: a function of it would put one
+// equation more into each proof that goes from such a slice to `with_block`.
 pub const MODULE_WORDS: usize = LAYOUT + 1;
 
 // The most channels that a module has.

@@ -14,7 +14,7 @@ use sessions::ITEM_BYTES;
 // The op of an arrival.
 const ARRIVE: u32 = 128;
 
-// The refusal of the working memory or of the count, as at power-up.
+// The refusal of the working memory or of the count, as at power-up: written out, since each of the two refuses by its own enum.
 #[tactic(auto, using(word::proofs::Branches::branches), unfolding(power::specs::Power::power_refusal))]
 fn memory_refusal(count: u32, words: usize) -> Result<(), Refusal>
     ensures { refusal_number result ≡ power_refusal count words }

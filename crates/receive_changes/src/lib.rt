@@ -15,6 +15,7 @@ use registers::accesses::Access;
 // What happens to the FIFO.
 #[derive(Drop)]
 pub enum Happening {
+    // A case of the description's own: "Any other call, and any refused one: nothing."
     Nothing,
     // An entry is accepted.
     Enters,

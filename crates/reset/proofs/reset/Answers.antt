@@ -32,6 +32,6 @@ unfolding module_reset
 returns-clause-after c = let m = c.args.mem.now in
     let z : wide_refusal m ≡ 0 = sym c.in_ok-wide_refusal.ensures in
     rw z
-        (c.fill_part.ensures
-        ∙ ap (λ (t : List ℕ). part_with (word t count) (word t layout) ++ drop module_words t) c.reset_channels.ensures
-        ∙ rw (part_kept m z count (omega arith), part_kept m z layout (omega arith)) refl)
+    (c.fill_part.ensures
+    ∙ ap (λ (t : List ℕ). part_with (word t count) (word t layout) ++ drop module_words t) c.reset_channels.ensures
+    ∙ rw (part_kept m z count (omega arith), part_kept m z layout (omega arith)) refl)
