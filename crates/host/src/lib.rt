@@ -36,7 +36,7 @@ pub fn nqabelihu_words(count: u32) -> usize
 pub fn nqabelihu_label(word: u32) -> u32
     ensures { result ≡ label word }
 {
-    word::label(word) as u32
+    u32::from(word::label(word))
 }
 
 // Performs the item `op channel a b` on a module's memory: the result is the answer's number, and `values` takes the answer's values, zeros

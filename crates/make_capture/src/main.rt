@@ -3,28 +3,15 @@
 // word and the stamp at that moment.
 #![tactic(auto)]
 
-ghost use Rattle.std.specs.Prelude.{◌≡◌, ◌+◌, ◌/◌, ◌≤◌, length, replicate};
+ghost use Rattle.std.specs.Prelude.{◌≡◌, ◌+◌, ◌/◌, ◌≤◌, length};
 ghost use Rattle.calls.specs.Performed.{item_after};
-ghost use Rattle.frame.specs.Layout.{need, most};
 ghost use Rattle.sessions.specs.Sessions.{item_bytes, item_at, performed};
 
-use block::layout::WORDS;
-use frame::layout::{MODULE_WORDS, MOST};
 use sessions::ITEM_BYTES;
 use std::io::{Read, Write};
 
-// The words of twelve channels.
-const NEED: usize = MODULE_WORDS + (MOST as usize) * WORDS;
-
 // The room for an arrival's record.
 const RECORD: usize = 14;
-
-// The memory of twelve channels, all zeros.
-fn memory() -> [u32; NEED]
-    ensures { result ≡ replicate (need most) 0 }
-{
-    [0; NEED]
-}
 
 // Performs the item at an index and writes its record.
 fn record_at(out: &mut impl Write, mem: &mut [u32], bytes: &[u8], at: usize)
@@ -42,8 +29,8 @@ fn record_at(out: &mut impl Write, mem: &mut [u32], bytes: &[u8], at: usize)
 fn record_all(out: &mut impl Write, mem: &mut [u32], bytes: &[u8])
     ensures { mem.new ≡ performed (length bytes.now / item_bytes) bytes.now mem.old }
 {
-    for index in 0..bytes.len() / ITEM_BYTES {
-        record_at(out, mem, bytes, ITEM_BYTES * index);
+    for done in 0..bytes.len() / ITEM_BYTES {
+        record_at(out, mem, bytes, ITEM_BYTES * done);
     }
 }
 
@@ -52,7 +39,7 @@ fn record_some(input: &mut impl Read, out: &mut impl Write, mem: &mut [u32]) -> 
     let mut buffer = streams::buffer();
     let n = streams::read_full(input, &mut buffer);
     record_all(out, mem, &buffer[..n]);
-    n == 4096
+    n == buffer.len()
 }
 
 // The loop has more turns than a run uses up.
@@ -66,6 +53,6 @@ fn record_input(input: &mut impl Read, out: &mut impl Write, mem: &mut [u32]) {
 
 fn main(rt: HostRuntime) {
     let mut out = rt.stdout();
-    let mut mem = memory();
+    let mut mem = sessions::memory();
     record_input(&mut rt.stdin(), &mut out, &mut mem);
 }

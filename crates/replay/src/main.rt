@@ -15,7 +15,7 @@ fn put(out: &mut impl Write, place: usize, number: u32) {
     if 0 < place {
         streams::write_all(out, b" ");
     }
-    streams::print_decimal(out, number as u64);
+    streams::print_decimal(out, u64::from(number));
 }
 
 // Writes the numbers as one line.
