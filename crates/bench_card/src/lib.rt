@@ -79,6 +79,7 @@ fn compared(bench: &Bench, outputs: &[u32]) -> Verdict
 {
     let mut place = start();
     let mut step = 1;
+    // The place of the output, from 1, for the verdict.
     let mut number = 1;
     for recorded in outputs.chunks(NUMBERS) {
         let Some(next) = bench.next_output(step, place) else {

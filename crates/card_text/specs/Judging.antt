@@ -14,7 +14,7 @@ use Rattle.card_text.specs.declared.judging.CardError.TheVariants.{WrongLine, Re
 abbrev pub judged_parts : List ℕ → ℕ → List ℕ → List ℕ → Result Verdict Refusal
 judged_parts ram parity asyncs outputs = verdict (bench (take commands ram) (drop commands ram) parity asyncs) outputs
 
--- a card that does not say its parity is judged with parity on
+-- a card whose text was read to its end has its parity or a fault; any number but 0 is parity on
 abbrev pub parity_on : ℕ
 parity_on = 1
 

@@ -25,7 +25,7 @@ impl From<Refusal> for CardError {
     }
 }
 
-// The parity of a card that does not say it: on.
+// A card whose text was read to its end has its parity or a fault. Any number but 0 is parity on.
 const ON: u32 = 1;
 
 // Judges a card whose RAMs are lent as one list.

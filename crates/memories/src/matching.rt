@@ -6,7 +6,7 @@ ghost use Rattle.memories.specs.Matching.{matched, match_written};
 use bits::with_bit;
 use block::layout::MATCH_SET;
 
-// Whether an index is in the match set: 1 or 0, the number of the answer.
+// Whether an index is in the match set: 1 or 0, the value that the call answers.
 pub fn read(block: &[u32], index: u32) -> u32
     requires { (Whole block.now) × (index < indexes) }
     ensures { result ≡ matched index block.now }

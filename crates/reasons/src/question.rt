@@ -1,4 +1,4 @@
-// When a question is refused: the memory and the count first, then the number of items, each item and the place.
+// When a question is refused: the count and the memory first, then the number of items, each item and the place.
 ghost use Rattle.std.specs.Prelude.{◌≡◌, ◌+◌, ◌≤◌, length};
 ghost use Rattle.power.specs.Power.{power_refusal};
 ghost use Rattle.sessions.specs.Sessions.{item_bytes, item_at};

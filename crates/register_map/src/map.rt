@@ -54,8 +54,8 @@ pub enum Register {
     ControlOf(Control),
 }
 
-// The channel at whose registers an address stands. Channels are numbered from 1, and 0 is none, as in the definition: `size` bytes from `first` on are channel 1's, and
-// each further channel's stand a step behind.
+// The channel at whose registers an address stands: `size` bytes from `first` on are channel 1's, and each further channel's stand a step
+// behind. Channels are numbered from 1, and 0 is none, as `channel_in` of specs/Map.antt has it.
 fn channel_in(address: u32, first: u32, step: u32, size: u32) -> u32
     requires { (0 < step) × (most * step ≤ 0xFFFF_FFFF) }
     ensures { result ≡ channel_in first step size address }

@@ -1,8 +1,9 @@
 // How a register shows what its call answers.
 ghost use Rattle.std.specs.Prelude.{◌≡◌};
-ghost use Rattle.channel_calls.specs.Answer.{accepted};
+ghost use Rattle.channel_calls.specs.Answer.{accepted, answered};
 ghost use Rattle.register_map.specs.Shown.{status_bits, bits_of, shown};
 
+use block::refusal::Refusal;
 use channel_calls::calls::Reply;
 
 // Which bits of a value a register has.
@@ -57,7 +58,17 @@ fn bits_of(bits: Bits, value: u32) -> u32
 }
 
 // A register's answer by that of its call: a value, 0 for a write that is done, or the same refusal.
-pub fn shown(bits: Bits, reply: Reply) -> Reply
+pub fn shown(bits: Bits, answer: Result<Reply, Refusal>) -> Result<Reply, Refusal>
+    ensures { answered result ≡ shown bits (answered answer) }
+{
+    match answer {
+        Ok(reply) => Ok(value_shown(bits, reply)),
+        Err(refusal) => Err(refusal),
+    }
+}
+
+// The value that a register shows of a reply.
+fn value_shown(bits: Bits, reply: Reply) -> Reply
     ensures { accepted result ≡ shown bits (accepted reply) }
 {
     match reply {

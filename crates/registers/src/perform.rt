@@ -16,8 +16,8 @@ fn perform_asked(mem: &mut [u32], asked: Asked) -> Result<Reply, Refusal>
 {
     match asked {
         Asked::OneCall(channel, call, bits) => {
-            let reply = module::on_channel::on_channel(mem, channel, call)?;
-            Ok(register_map::shown::shown(bits, reply))
+            let answer = module::on_channel::on_channel(mem, channel, call);
+            register_map::shown::shown(bits, answer)
         }
         Asked::EachNamed(control, mask) => crate::masked::masked(mem, control, mask),
     }

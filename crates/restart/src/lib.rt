@@ -19,7 +19,7 @@ fn clear_fifos(block: &mut [u32])
     clear_transmit(block);
 }
 
-// Runs the initiated test with its result, the number of the call: 0 passed, 1 failed.
+// Runs the initiated test with its result as the call gives it: 0 passed, 1 failed.
 #[tactic(auto, unfolding(crate::specs::Tests::tested))]
 pub fn initiated_test(block: &mut [u32], res: u32)
     requires { Whole block.old }

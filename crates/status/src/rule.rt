@@ -140,7 +140,7 @@ pub fn clear_latch(block: &mut [u32], mask: u32)
     block[LATCH] = chosen(block[LATCH], mask, 0);
 }
 
-// Whether an interrupt is pending, that is a latched bit is enabled: 1 or 0, the number of the answer.
+// Whether an interrupt is pending, that is a latched bit is enabled: 1 or 0, the value that the call answers.
 #[tactic(auto, unfolding(crate::specs::Status::pending))]
 pub fn pending(block: &[u32]) -> u32
     requires { Whole block.now }

@@ -41,7 +41,7 @@ pub fn read_full<R: Read>(input: &mut R, buffer: &mut [u8]) -> usize
     done
 }
 
-// A write answers true or false, and not why it failed: no program goes another way by it.
+// A write answers true or false, and not why it failed: no program that calls it goes another way by it.
 
 // Writes all of the bytes and answers true, or stops at the first write that takes none or fails, with some of them written.
 pub fn write_all<W: Write>(out: &mut W, bytes: &[u8]) -> bool
