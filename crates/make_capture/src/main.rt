@@ -3,28 +3,15 @@
 // word and the stamp at that moment.
 #![tactic(auto)]
 
-ghost use Rattle.std.specs.Prelude.{◌≡◌, ◌+◌, ◌/◌, ◌≤◌, length, replicate};
+ghost use Rattle.std.specs.Prelude.{◌≡◌, ◌+◌, ◌/◌, ◌≤◌, length};
 ghost use Rattle.calls.specs.Performed.{item_after};
-ghost use Rattle.frame.specs.Layout.{need, most};
 ghost use Rattle.sessions.specs.Sessions.{item_bytes, item_at, performed};
 
-use block::layout::WORDS;
-use frame::layout::{MODULE_WORDS, MOST};
 use sessions::ITEM_BYTES;
-use std::io::{Read, Write};
-
-// The words of twelve channels.
-const NEED: usize = MODULE_WORDS + (MOST as usize) * WORDS;
+use std::io::Write;
 
 // The room for an arrival's record.
 const RECORD: usize = 14;
-
-// The memory of twelve channels, all zeros.
-fn memory() -> [u32; NEED]
-    ensures { result ≡ replicate (need most) 0 }
-{
-    [0; NEED]
-}
 
 // Performs the item at an index and writes its record.
 fn record_at(out: &mut impl Write, mem: &mut [u32], bytes: &[u8], at: usize)
@@ -47,25 +34,11 @@ fn record_all(out: &mut impl Write, mem: &mut [u32], bytes: &[u8])
     }
 }
 
-// Performs the next items, as many as the buffer holds, and answers whether more may come.
-fn record_some(input: &mut impl Read, out: &mut impl Write, mem: &mut [u32]) -> bool {
-    let mut buffer = streams::buffer();
-    let n = streams::read_full(input, &mut buffer);
-    record_all(out, mem, &buffer[..n]);
-    n == 4096
-}
-
-// The loop has more turns than a run uses up.
-fn record_input(input: &mut impl Read, out: &mut impl Write, mem: &mut [u32]) {
-    for _ in 0..u64::MAX {
-        if !record_some(input, out, mem) {
-            break;
-        }
-    }
-}
-
 fn main(rt: HostRuntime) {
     let mut out = rt.stdout();
-    let mut mem = memory();
-    record_input(&mut rt.stdin(), &mut out, &mut mem);
+    let mut mem = sessions::memory();
+    streams::each_part(
+        &mut rt.stdin(),
+        |items| record_all(&mut out, &mut mem, items),
+    );
 }
