@@ -136,17 +136,12 @@ fn take_all(out: &mut impl Write, list: &[u32], line: Option<Line>, text: &[u8])
     line
 }
 
-// Answers the lines of the input; a last line without a line end counts. The loop has more turns than a run uses up.
+// Answers the lines of the input; a last line without a line end counts.
 fn answer_all(input: &mut impl Read, out: &mut impl Write, list: &[u32]) {
-    let mut buffer = streams::buffer();
     let mut read = None;
-    for _ in 0..u64::MAX {
-        let n = streams::read_full(input, &mut buffer);
-        read = take_all(out, list, read, &buffer[..n]);
-        if n < buffer.len() {
-            break;
-        }
-    }
+    streams::each_part(input, |text| {
+        read = take_all(out, list, read, text);
+    });
     if let Some(line) = read {
         answer(out, list, line);
     }
@@ -177,15 +172,10 @@ fn list_all(list: &mut [u32], at: Listed, text: &[u8]) -> Listed
 
 // The numbers of the file.
 fn read_list(list: &mut [u32], file: &mut impl Read) -> Listed {
-    let mut buffer = streams::buffer();
     let mut at = text::list::begun();
-    for _ in 0..u64::MAX {
-        let n = streams::read_full(file, &mut buffer);
-        at = list_all(list, at, &buffer[..n]);
-        if n < buffer.len() {
-            break;
-        }
-    }
+    streams::each_part(file, |text| {
+        at = list_all(list, at, text);
+    });
     text::list::stored(list, at)
 }
 

@@ -43,21 +43,14 @@ impl fmt::Display for Wrong {
     }
 }
 
-// The loop has more turns than a run uses up.
 fn main(rt: HostRuntime) {
-    let mut input = rt.stdin();
-    let mut buffer = streams::buffer();
     let mut words = [0u32; room::WORDS];
     let mut asyncs = [0u32; room::ASYNCS];
     let mut outputs = [0u32; room::OUTPUTS];
     let mut at = reading::begun();
-    for _ in 0..u64::MAX {
-        let n = streams::read_full(&mut input, &mut buffer);
-        at = reading::text_taken(&mut words, &mut asyncs, &mut outputs, at, &buffer[..n]);
-        if n < buffer.len() {
-            break;
-        }
-    }
+    streams::each_part(&mut rt.stdin(), |text| {
+        at = reading::text_taken(&mut words, &mut asyncs, &mut outputs, at, text);
+    });
     at = reading::finished(&mut words, &mut asyncs, &mut outputs, at);
     let answer = Answer(judging::answered(&words, &asyncs, &outputs, at));
     let _ = writeln!(rt.stdout(), "{answer}");

@@ -8,7 +8,7 @@ ghost use Rattle.calls.specs.Performed.{item_after};
 ghost use Rattle.sessions.specs.Sessions.{item_bytes, item_at, performed};
 
 use sessions::ITEM_BYTES;
-use std::io::{Read, Write};
+use std::io::Write;
 
 // The room for an arrival's record.
 const RECORD: usize = 14;
@@ -29,30 +29,16 @@ fn record_at(out: &mut impl Write, mem: &mut [u32], bytes: &[u8], at: usize)
 fn record_all(out: &mut impl Write, mem: &mut [u32], bytes: &[u8])
     ensures { mem.new ≡ performed (length bytes.now / item_bytes) bytes.now mem.old }
 {
-    for done in 0..bytes.len() / ITEM_BYTES {
-        record_at(out, mem, bytes, ITEM_BYTES * done);
-    }
-}
-
-// Performs the next items, as many as the buffer holds, and answers whether more may come.
-fn record_some(input: &mut impl Read, out: &mut impl Write, mem: &mut [u32]) -> bool {
-    let mut buffer = streams::buffer();
-    let n = streams::read_full(input, &mut buffer);
-    record_all(out, mem, &buffer[..n]);
-    n == buffer.len()
-}
-
-// The loop has more turns than a run uses up.
-fn record_input(input: &mut impl Read, out: &mut impl Write, mem: &mut [u32]) {
-    for _ in 0..u64::MAX {
-        if !record_some(input, out, mem) {
-            break;
-        }
+    for index in 0..bytes.len() / ITEM_BYTES {
+        record_at(out, mem, bytes, ITEM_BYTES * index);
     }
 }
 
 fn main(rt: HostRuntime) {
     let mut out = rt.stdout();
     let mut mem = sessions::memory();
-    record_input(&mut rt.stdin(), &mut out, &mut mem);
+    streams::each_part(
+        &mut rt.stdin(),
+        |items| record_all(&mut out, &mut mem, items),
+    );
 }

@@ -8,7 +8,7 @@ ghost use Rattle.sessions.specs.Sessions.{item_bytes, item_at, performed};
 
 use calls::perform::NO_CALL;
 use sessions::ITEM_BYTES;
-use std::io::{Read, Write};
+use std::io::Write;
 
 // Writes the number in a place of a line: a space parts it from the one before.
 fn put(out: &mut impl Write, place: usize, number: u32) {
@@ -47,25 +47,11 @@ fn perform_all(out: &mut impl Write, mem: &mut [u32], bytes: &[u8])
     }
 }
 
-// Performs the next items, as many as the buffer holds, and answers whether more may come.
-fn perform_some(input: &mut impl Read, out: &mut impl Write, mem: &mut [u32]) -> bool {
-    let mut buffer = streams::buffer();
-    let n = streams::read_full(input, &mut buffer);
-    perform_all(out, mem, &buffer[..n]);
-    n == buffer.len()
-}
-
-// The loop has more turns than a run uses up.
-fn perform_input(input: &mut impl Read, out: &mut impl Write, mem: &mut [u32]) {
-    for _ in 0..u64::MAX {
-        if !perform_some(input, out, mem) {
-            break;
-        }
-    }
-}
-
 fn main(rt: HostRuntime) {
     let mut out = rt.stdout();
     let mut mem = sessions::memory();
-    perform_input(&mut rt.stdin(), &mut out, &mut mem);
+    streams::each_part(
+        &mut rt.stdin(),
+        |items| perform_all(&mut out, &mut mem, items),
+    );
 }

@@ -88,18 +88,9 @@ impl Reading {
     }
 }
 
-// The loop has more turns than a run uses up.
 fn main(rt: HostRuntime) {
-    let mut input = rt.stdin();
     let mut out = rt.stdout();
-    let mut buffer = streams::buffer();
     let mut reading = begun();
-    for _ in 0..u64::MAX {
-        let n = streams::read_full(&mut input, &mut buffer);
-        reading.take_all(&mut out, &buffer[..n]);
-        if n < buffer.len() {
-            break;
-        }
-    }
+    streams::each_part(&mut rt.stdin(), |text| reading.take_all(&mut out, text));
     let _ = reading.end(&mut out);
 }

@@ -1,11 +1,13 @@
-// What a program reads, writes and is asked: bytes from a reader, bytes and numbers to a writer, and its arguments. No public function requires
+// What a program reads, writes and is asked: bytes from a reader, bytes and numbers to a writer, and its arguments. Only `each_part` requires
 // anything, and none gives up: a read that fails counts as the end of the input, a write that fails as done in part, and an argument
 // that is missing as empty.
 #![tactic(auto)]
 
-ghost use Rattle.std.specs.Prelude.{◌≡◌, ◌≤◌, IsTrue, decimal as decimal_text, drop, length, take};
+ghost use Rattle.std.specs.Prelude.{◌≡◌, ◌-◌, ◌^◌, ◌≤◌, IsTrue, decimal as decimal_text, drop, length, take};
+ghost use Rattle.std.specs.Fn.{CalledAt};
 ghost use Rattle.std.specs.Io.KnownBytes.{Appends, Consumes};
 ghost use Rattle.streams.specs.Digits.{hex_glyph, hex_text};
+ghost use Rattle.streams.specs.Parts.{TakesParts};
 
 use std::env::Env;
 use std::io::{Read, Write};
@@ -16,9 +18,6 @@ pub fn buffer() -> [u8; 4096]
 {
     [0; 4096]
 }
-
-// A program loops over its input itself: a function that was given what to do with each part would require that this may always be called, and no
-// function here requires anything.
 
 // Reads until the buffer is full, the input ends or a read fails, and answers how many bytes stand at the buffer's start.
 pub fn read_full<R: Read>(input: &mut R, buffer: &mut [u8]) -> usize
@@ -39,6 +38,22 @@ pub fn read_full<R: Read>(input: &mut R, buffer: &mut [u8]) -> usize
         }
     }
     done
+}
+
+// Reads the input to its end, a full buffer at a time, and calls `take` with each part; the last is shorter, perhaps empty. It has to be callable
+// with any part. The loop has more turns than a run uses up.
+pub fn each_part<R: Read, F: FnMut(&[u8])>(input: &mut R, mut take: F)
+    requires { F.IsAlwaysCallable take }
+    ensures { TakesParts (CalledAt F.FnMut) 4096 (2 ^ 64 - 1) (R.remaining input.old) (R.remaining input.new) take }
+{
+    let mut room = buffer();
+    for _ in 0..u64::MAX {
+        let n = read_full(input, &mut room);
+        take(&room[..n]);
+        if n < room.len() {
+            break;
+        }
+    }
 }
 
 // A write answers true or false, and not why it failed: no program that calls it goes another way by it.
