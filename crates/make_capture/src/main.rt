@@ -29,8 +29,8 @@ fn record_at(out: &mut impl Write, mem: &mut [u32], bytes: &[u8], at: usize)
 fn record_all(out: &mut impl Write, mem: &mut [u32], bytes: &[u8])
     ensures { mem.new ≡ performed (length bytes.now / item_bytes) bytes.now mem.old }
 {
-    for index in 0..bytes.len() / ITEM_BYTES {
-        record_at(out, mem, bytes, ITEM_BYTES * index);
+    for done in 0..bytes.len() / ITEM_BYTES {
+        record_at(out, mem, bytes, ITEM_BYTES * done);
     }
 }
 
