@@ -1,4 +1,4 @@
-// The async words of a card, written each before its step.
+// The async words of a card, written each before its step: pairs of numbers in one list, as docs/BENCH_CARDS.md has `judge` take them.
 ghost use Rattle.std.specs.Prelude.{◌≡◌};
 ghost use Rattle.bench_card.specs.Asyncs.{written, written_for, before};
 

@@ -48,7 +48,8 @@ pub struct Fields {
     pub reading: Option<Reading>,
 }
 
-// What a line says: nothing; a word, or the parity; an async word with its step; an output; or none of these.
+// What a line says: nothing; a word, or the parity; an async word with its step; an output; or none of these. Blank and none
+// are two cases, since a blank line is passed over and the other is a fault.
 #[derive(Clone, Copy)]
 pub enum Entry {
     Blank,

@@ -9,7 +9,7 @@ use card_lines::fields::Entry;
 const PARITIES: u32 = 2;
 
 // The parity, once it was read; how many numbers are stored of words, async words and outputs; whether an async word or an output was read; and
-// what is wrong, if anything.
+// what is wrong, if anything. The lists are the caller's, since a program asks for no memory.
 #[derive(Clone, Copy)]
 pub struct Card {
     pub parity: Option<u32>,

@@ -37,7 +37,7 @@ pub enum Course {
     Known(Reason),
 }
 
-// The course so far, and the channel's receive mode.
+// The course so far, and the channel's receive mode: the number that a write of the setting gave, which may be any.
 #[derive(Drop)]
 pub struct Watch {
     pub mode: u32,

@@ -40,7 +40,7 @@ fn switch_of(number: u32) -> Setting
     }
 }
 
-// Settings 0 to 11.
+// Settings 0 to 11. No `TryFrom`: who calls it has told the numbers above 11 apart.
 fn setting_of(number: u32) -> Setting
     ensures { result ≡ setting_of number }
 {

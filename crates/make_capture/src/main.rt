@@ -25,7 +25,7 @@ fn record_at(out: &mut impl Write, mem: &mut [u32], bytes: &[u8], at: usize)
     }
 }
 
-// Performs the items in order; a cut last item is no call.
+// Performs the items in order; a cut last item is no call. `replay` has its own loop: each says what it leaves of the memory.
 fn record_all(out: &mut impl Write, mem: &mut [u32], bytes: &[u8])
     ensures { mem.new ≡ performed (length bytes.now / item_bytes) bytes.now mem.old }
 {

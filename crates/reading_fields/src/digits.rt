@@ -26,7 +26,7 @@ pub fn of_digits(field: u32) -> u32
     field % 16 + 10 * (tens % 16 + 10 * (hundreds % 16 + 10 * (thousands % 16 + 10 * top)))
 }
 
-// The field of a number of five digits.
+// The field of a number of five digits, written out as `of_digits` is.
 pub fn to_digits(number: u32) -> u32
     requires { number ≤ greatest_decimal }
     ensures { result ≡ to_digits lower number }

@@ -11,7 +11,7 @@ use frame::layout::{MOST, need};
 use little_endian::word_at;
 use sessions::ITEM_BYTES;
 
-// The op of an arrival.
+// The op of an arrival, as the bytes of an item have it.
 const ARRIVE: u32 = 128;
 
 // The refusal of the working memory or of the count, as at power-up: written out, since each of the two refuses by its own enum.

@@ -13,7 +13,7 @@ use little_endian::word_at;
 // The op of an arrival, as the bytes of an item have it.
 const ARRIVE: u32 = 128;
 
-// The op of a stamp read.
+// The op of a stamp read, as an item has it.
 const READ_STAMP: u32 = 5;
 
 // What a stamp read gives; it changes nothing.

@@ -10,7 +10,7 @@ use calls::perform::NO_CALL;
 use sessions::ITEM_BYTES;
 use std::io::Write;
 
-// Writes the number in a place of a line: a space parts it from the one before.
+// Writes the number in a place of a line: a space parts it from the one before. By `streams`, each number a write: no format writes a list.
 fn put(out: &mut impl Write, place: usize, number: u32) {
     if 0 < place {
         streams::write_all(out, b" ");
@@ -35,7 +35,7 @@ fn perform_at(out: &mut impl Write, mem: &mut [u32], bytes: &[u8], at: usize)
     show(out, &answered.words[..answered.count]);
 }
 
-// Performs the items in order; a cut last item is no call.
+// Performs the items in order; a cut last item is no call. `make_capture` has its own loop: each says what it leaves of the memory.
 fn perform_all(out: &mut impl Write, mem: &mut [u32], bytes: &[u8])
     ensures { mem.new ≡ performed (length bytes.now / item_bytes) bytes.now mem.old }
 {

@@ -108,7 +108,8 @@ struct Progress {
     ended: bool,
 }
 
-// Adds lines while the longest record would lie within the bytes, and where these are the last ones to the end of the reading.
+// Adds lines while the longest record would lie within the bytes, and where these are the last ones to the end of the reading. It goes on by what a
+// record says of its length, so no index is counted.
 fn show_some(
     out: &mut impl Write,
     bytes: &[u8],
@@ -130,7 +131,8 @@ fn show_some(
     Progress { at, ended: false }
 }
 
-// What is at hand between two reads of the input: so many bytes, which begin `base` bytes into the capture.
+// What is at hand between two reads of the input: so many bytes, which begin `base` bytes into the capture. They lie at the front of a buffer of
+// a fixed size, since a program asks for no memory.
 #[derive(Clone, Copy)]
 struct Held {
     count: usize,
@@ -164,7 +166,7 @@ fn show_more(
     }
 }
 
-// The loop has more turns than a run uses up.
+// The loop has more turns than a run uses up. `streams::each_part` hands on parts of 4,096 bytes; here a record of up to 65,537 is read in one piece.
 fn show_input(
     input: &mut impl Read,
     out: &mut impl Write,

@@ -20,6 +20,7 @@ pub fn buffer() -> [u8; 4096]
 }
 
 // Reads until the buffer is full, the input ends or a read fails, and answers how many bytes stand at the buffer's start.
+// It goes on by what a read gave, so no index is counted.
 pub fn read_full<R: Read>(input: &mut R, buffer: &mut [u8]) -> usize
     ensures within { result ≤ length buffer.new }
     ensures part { result ≡ length (take result buffer.new) }

@@ -5,7 +5,7 @@ ghost use Rattle.text.specs.Listed.{begun_list, stored, stored_in, parts, listed
 use crate::token::Token;
 use crate::{bytes, token};
 
-// The open token, the numbers stored, and whether one found no room.
+// The open token, the numbers stored, and whether one found no room. The list is the caller's, since a program asks for no memory.
 #[derive(Clone, Copy)]
 pub struct Listed {
     pub token: Token,
