@@ -17,24 +17,45 @@ pub const THRESHOLD_LEAST: u32 = 1;
 
 pub const THRESHOLD_GREATEST: u32 = 65535;
 
-const RANGES: [(u32, u32); MODULE_WORDS] = [
-    (1, MOST), // count
-    (0, 0xFFFF_FFFF), // stamp
-    (0, RESOLUTION_GREATEST), // stamp resolution
-    (THRESHOLD_LEAST, THRESHOLD_GREATEST), // fault threshold
-    (0, TOP), // the twelve fault counters
-    (0, TOP),
-    (0, TOP),
-    (0, TOP),
-    (0, TOP),
-    (0, TOP),
-    (0, TOP),
-    (0, TOP),
-    (0, TOP),
-    (0, TOP),
-    (0, TOP),
-    (0, TOP),
-    (LAYOUT_NUMBER, LAYOUT_NUMBER), // layout number
+// Two tables and a loop by `while`: over one table of pairs, by `for`, the test takes four times as long, and the cost of a call misses its bar.
+const LEAST: [u32; MODULE_WORDS] = [
+    1,
+    0,
+    0,
+    THRESHOLD_LEAST,
+    0,
+    0,
+    0,
+    0,
+    0,
+    0,
+    0,
+    0,
+    0,
+    0,
+    0,
+    0,
+    LAYOUT_NUMBER,
+];
+
+const GREATEST: [u32; MODULE_WORDS] = [
+    MOST,
+    0xFFFF_FFFF,
+    RESOLUTION_GREATEST,
+    THRESHOLD_GREATEST,
+    TOP,
+    TOP,
+    TOP,
+    TOP,
+    TOP,
+    TOP,
+    TOP,
+    TOP,
+    TOP,
+    TOP,
+    TOP,
+    TOP,
+    LAYOUT_NUMBER,
 ];
 
 // The refusal of memory that is too short, or whose stored count is outside 1 to 12.
@@ -62,8 +83,7 @@ pub fn in_part(at: usize, value: u32) -> bool
     requires { at < module_words }
     ensures { result ≡ within part_leasts part_greatests at value }
 {
-    let (least, greatest) = RANGES[at];
-    (least <= value) & (value <= greatest)
+    (LEAST[at] <= value) & (value <= GREATEST[at])
 }
 
 // Whether every word of the module part is in its range. Every word is tested, with no branch between them.
@@ -72,8 +92,10 @@ fn is_part_sound(mem: &[u32]) -> bool
     ensures { result ≡ part_sound mem.now }
 {
     let mut sound = true;
-    for at in 0..MODULE_WORDS {
-        sound &= in_part(at, mem[at]);
+    let mut at = 0;
+    while at < MODULE_WORDS {
+        sound = sound & in_part(at, mem[at]);
+        at += 1;
     }
     sound
 }
