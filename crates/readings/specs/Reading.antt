@@ -50,17 +50,20 @@ abbrev pub reading : List ℕ → ℕ → Result Reading Refusal
 reading list w = passed_on (listed list w) (λ entry. reading_by entry w)
 
 -- the number, the kind and the value as an f64 of each case of a reading; zeros beside a refusal
-abbrev pub number_of : {A : Type 0} → Result A Refusal → ℕ
-number_of (Ok value) = 0
-number_of (Err refusal) = number refusal
+abbrev pub number_by : {A E : Type 0} → (E → ℕ) → Result A E → ℕ
+number_by number (Ok value) = 0
+number_by number (Err refusal) = number refusal
 
-abbrev pub kind_of : Result Reading Refusal → ℕ
+abbrev pub number_of : {A : Type 0} → Result A Refusal → ℕ
+number_of answer = number_by number answer
+
+abbrev pub kind_of : {E : Type 0} → Result Reading E → ℕ
 kind_of (Ok (Binary units)) = binary
 kind_of (Ok (Decimal value)) = decimal
 kind_of (Ok (Bits bits)) = bit_field
 kind_of (Err refusal) = 0
 
-abbrev pub units_of : Result Reading Refusal → Float
+abbrev pub units_of : {E : Type 0} → Result Reading E → Float
 units_of (Ok (Binary units)) = units
 units_of (Ok (Decimal value)) = Ieee.of_int binary64 value
 units_of (Ok (Bits bits)) = Ieee.of_int binary64 (pos bits)

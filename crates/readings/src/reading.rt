@@ -1,9 +1,9 @@
 // What a word reads as, by the list.
 ghost use Rattle.std.specs.Prelude.{◌≡◌};
-ghost use Rattle.readings.specs.Reading.{decimal_whole, whole_by, whole, in_units, shown, reading_by, reading, number_of, kind_of, units_of};
+ghost use Rattle.readings.specs.Reading.{decimal_whole, whole_by, whole, in_units, shown, reading_by, reading, number_by, kind_of, units_of};
 
 use crate::listed::listed;
-use crate::refusals::Refusal;
+use crate::refusals::{Numbered, Refusal};
 use label_list::entries::Entry;
 use label_list::kinds::{Kind, UnknownKind};
 use reading_fields::{bits, digits, signs};
@@ -85,17 +85,17 @@ pub fn read(list: &[u32], word: u32) -> Result<Reading, Refusal>
 }
 
 // What follows is for the C interface, whose functions give numbers, and zeros beside a refusal: first the number, 0 or that of the refusal.
-pub fn number_of<T>(answer: &Result<T, Refusal>) -> u32
-    ensures { result ≡ number_of answer.now }
+pub fn number_of<T, E: Numbered>(answer: &Result<T, E>) -> u32
+    ensures { result ≡ number_by E.number answer.now }
 {
     match answer {
         Ok(_) => 0,
-        Err(refusal) => u32::from(*refusal),
+        Err(refusal) => refusal.number(),
     }
 }
 
 // The kind of a reading, 0 of a refusal.
-pub fn kind_of(reading: &Result<Reading, Refusal>) -> u32
+pub fn kind_of<E>(reading: &Result<Reading, E>) -> u32
     ensures { result ≡ kind_of reading.now }
 {
     match reading {
@@ -107,7 +107,7 @@ pub fn kind_of(reading: &Result<Reading, Refusal>) -> u32
 }
 
 // The value of a reading as an f64, whatever its kind.
-pub fn units_of(reading: &Result<Reading, Refusal>) -> f64
+pub fn units_of<E>(reading: &Result<Reading, E>) -> f64
     ensures { result ≡ units_of reading.now }
 {
     match reading {

@@ -1,5 +1,5 @@
 // Why a word is not read, and why a value is not put into one.
-ghost use Rattle.std.specs.Prelude.{◌≡◌};
+ghost use Rattle.std.specs.Prelude.{◌≡◌, ℕ};
 ghost use Rattle.readings.specs.declared.refusals.Refusal.TheVariants.{NoEntry};
 ghost use Rattle.readings.specs.Refusals.{number};
 
@@ -35,5 +35,29 @@ impl From<UnknownKind> for Refusal {
 
     fn from(_unknown: UnknownKind) -> Self {
         Self::NoEntry
+    }
+}
+
+// What C hears of by a number: a refusal, or the number itself where a caller has it already.
+pub trait Numbered {
+    ghost number: { Self → ℕ };
+
+    fn number(&self) -> u32
+        ensures { result ≡ number self.now };
+}
+
+impl Numbered for Refusal {
+    ghost number = { Rattle.readings.specs.Refusals.number };
+
+    fn number(&self) -> u32 {
+        u32::from(*self)
+    }
+}
+
+impl Numbered for u32 {
+    ghost number = { λ number. number };
+
+    fn number(&self) -> u32 {
+        *self
     }
 }
