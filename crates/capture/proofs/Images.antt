@@ -10,7 +10,8 @@ use lib.Dec.{eqb}
 use lib.ListN.{length, replicate}
 use lib.Seq.{sets}
 use Rattle.capture.specs.Format.{commands_of, lent_words, lent_of, half, whole}
-use Rattle.capture.specs.Read.{Answer, kind_at, body_at, words_at, nothing, found_at, refusal_at, seen_at, read_at, lent_after}
+use Rattle.capture.specs.declared.reading.Answer.{Answer}
+use Rattle.capture.specs.Read.{kind_at, body_at, words_at, nothing, found_at, refusal_at, seen_at, read_at, lent_after}
 use Rattle.capture.proofs.Sizes.{image_long, lent_all, lent_none}
 use Rattle.capture.proofs.Sound.{sound}
 use Rattle.capture.proofs.Stores.{sets-append, length-words}

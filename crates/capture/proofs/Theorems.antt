@@ -11,7 +11,8 @@ use lib.ListN.{length, take, drop, length-append, length-drop, take-append-drop}
 use lib.Seq.{sets, sets-eq, length-take-le, length-sets, drop-length, drop-drop}
 use Rattle.little_endian.specs.LittleEndian.{half_at, word_at, two, four}
 use Rattle.capture.specs.Format.{Record, made, arrival, commands_of, lent_words, known, length_of, half, whole, fours, body_of, bytes_of}
-use Rattle.capture.specs.Read.{Answer, length_at, kind_at, channel_at, body_at, words_at, commands_at, filling, cut_of, kind_refusal, channel_refusal, refusal_at, nothing, found_at, seen_at, read_at, lent_after}
+use Rattle.capture.specs.declared.reading.Answer.{Answer}
+use Rattle.capture.specs.Read.{length_at, kind_at, channel_at, body_at, words_at, commands_at, filling, cut_of, kind_refusal, channel_refusal, refusal_at, nothing, found_at, seen_at, read_at, lent_after}
 use Rattle.capture.specs.Captures.{Below, Valid, AllValid, Reading, capture_of, record_of, ended, before, read_from, read_all, write_from}
 use Rattle.capture.specs.Write.{count_refusal, room_refusal, write_refusal, refusal_of, written, bytes_after}
 use Rattle.capture.specs.Laws.{ReadsWhatWasWritten, WritesWhatWasRead, WritesOneAfterAnother, MovesOn, Stays, Ends, Example}

@@ -11,7 +11,8 @@ use lib.ListN.{length, take, drop, replicate, length-append, length-replicate}
 use lib.Seq.{sets, sets-eq, take_at}
 use Rattle.little_endian.specs.LittleEndian.{word_at, two, four}
 use Rattle.capture.specs.Format.{Record, arrival, old_image, old_image_commands, image, image_commands, commands_of, lent_words, lent_of, known, length_of, half, whole, fours, body_of, bytes_of}
-use Rattle.capture.specs.Read.{Answer, length_at, kind_at, channel_at, body_at, commands_at, cut_of, kind_refusal, channel_refusal, refusal_at, found_at, seen_at, read_at, lent_after}
+use Rattle.capture.specs.declared.reading.Answer.{Answer}
+use Rattle.capture.specs.Read.{length_at, kind_at, channel_at, body_at, commands_at, cut_of, kind_refusal, channel_refusal, refusal_at, found_at, seen_at, read_at, lent_after}
 use Rattle.capture.specs.Captures.{Valid, record_of}
 use Rattle.capture.proofs.Sizes.{few, few_lent, covers, no_commands, not_long}
 use Rattle.capture.proofs.Put.{length_two, length-four, length_body}

@@ -1,7 +1,8 @@
 -- Whole captures: records written one behind the other, and read "one after another from lent capture bytes" (paper 02, (ii)).
 use Rattle.std.specs.Prelude.{ℕ, zero, suc, ◌<◌, ◌≤◌, ◌^◌, ◌≡◌, true, cond, List, [], ◌∷◌, ◌++◌, eqb, length, take}
 use Rattle.capture.specs.Format.{Record, made, arrival, known, commands_of, bytes_of}
-use Rattle.capture.specs.Read.{Answer, read_at, lent_after}
+use Rattle.capture.specs.declared.reading.Answer.{Answer}
+use Rattle.capture.specs.Read.{read_at, lent_after}
 use Rattle.capture.specs.Write.{written, bytes_after}
 
 -- every number of a list is below n

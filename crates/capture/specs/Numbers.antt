@@ -1,7 +1,8 @@
 -- The numbers of kinds and refusals, and answers in the numbers that the definitions and C have.
 use Rattle.std.specs.Prelude.{ℕ, ◌≡◌, false, Option, Some, None, Result, Ok, Err, MatchResult}
 use Rattle.capture.specs.Format.{arrival, old_image, image, known}
-use Rattle.capture.specs.Read.{Answer, nothing}
+use Rattle.capture.specs.declared.reading.Answer.{Answer}
+use Rattle.capture.specs.Read.{nothing}
 use Rattle.capture.specs.Write.{Written}
 use Rattle.capture.specs.declared.Cursor.{Cursor}
 use Rattle.capture.specs.declared.kinds.Kind.{Kind}

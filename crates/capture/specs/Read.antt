@@ -3,16 +3,7 @@ use Rattle.std.specs.Prelude.{ℕ, zero, suc, ◌+◌, ◌-◌, cond, List, [], 
 use Rattle.std.proofs.lemmas.List.Edits.{sets}
 use Rattle.little_endian.specs.LittleEndian.{half_at, word_at}
 use Rattle.capture.specs.Format.{arrival, commands_of, lent_words, lent_of, known, length_of, half, whole}
-use Rattle.capture.specs.declared.Cursor.{Cursor}
-
--- what stands at an offset, in numbers: a refusal's number, and a record's kind and values
-pub record Answer : Type 0 where
-  pub number : ℕ
-  pub kind : ℕ
-  pub next : Cursor
-  pub channel : ℕ
-  pub word : ℕ
-  pub stamp : ℕ
+use Rattle.capture.specs.declared.reading.Answer.{Answer}
 
 -- the fields of the record at an offset
 abbrev pub length_at : List ℕ → ℕ → ℕ

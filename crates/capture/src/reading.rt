@@ -3,7 +3,7 @@ ghost use Rattle.std.specs.Prelude.{◌≡◌, ◌+◌, ◌*◌, ◌-◌, ◌≤
 ghost use Rattle.std.proofs.lemmas.List.Edits.{sets};
 ghost use Rattle.capture.specs.Format.{lent_words, whole};
 ghost use Rattle.capture.specs.Numbers.{kind_number, number_of, answer_of};
-ghost use Rattle.capture.specs.Read.{kind_refusal, channel_refusal, refusal_at, kind_at, found_at, seen_at, read_at, words_at, lent_after};
+ghost use Rattle.capture.specs.Read.{kind_refusal, channel_refusal, refusal_at, kind_at, nothing, found_at, seen_at, read_at, words_at, lent_after};
 
 use crate::Cursor;
 use crate::kinds::{CHANNELS, HALF, Kind, LENT_WORDS, WHOLE};
@@ -14,6 +14,18 @@ use little_endian::{half_at, word_at};
 #[derive(Clone, Copy)]
 pub struct Found {
     pub kind: Kind,
+    pub next: Cursor,
+    pub channel: u32,
+    pub word: u32,
+    pub stamp: u32,
+}
+
+// What stands at an offset, in numbers as C and a line have them. The functions here give kind 0 at the end of the bytes and beside a refusal, and then
+// the offset is the same; one that is given an answer takes any numbers.
+#[derive(Clone, Copy)]
+pub struct Answer {
+    pub number: u32,
+    pub kind: u32,
     pub next: Cursor,
     pub channel: u32,
     pub word: u32,
@@ -115,6 +127,38 @@ pub fn next(seen: Result<Option<Found>, Refusal>, cursor: Cursor) -> Cursor
     match seen {
         Ok(Some(found)) => found.next,
         Ok(None) | Err(_) => cursor,
+    }
+}
+
+// No record: the end, or a refusal.
+fn nothing(number: u32, cursor: Cursor) -> Answer
+    ensures { result ≡ nothing number cursor.offset }
+{
+    Answer {
+        number,
+        kind: 0,
+        next: cursor,
+        channel: 0,
+        word: 0,
+        stamp: 0,
+    }
+}
+
+// What was seen at an offset, in numbers.
+pub fn answer_of(cursor: Cursor, seen: Result<Option<Found>, Refusal>) -> Answer
+    ensures { result ≡ answer_of cursor.offset seen }
+{
+    match seen {
+        Ok(Some(found)) => Answer {
+            number: 0,
+            kind: u32::from(found.kind),
+            next: found.next,
+            channel: found.channel,
+            word: found.word,
+            stamp: found.stamp,
+        },
+        Ok(None) => nothing(0, cursor),
+        Err(refusal) => nothing(u32::from(refusal), cursor),
     }
 }
 

@@ -1,7 +1,7 @@
 -- The numbers of a line that tells what stands at an offset of a capture.
 use Rattle.std.specs.Prelude.{◌≡◌, ℕ, ◌+◌, ◌%◌, ◌^◌, cond, List, [], ◌∷◌, ◌==◌}
 use Rattle.capture.specs.Format.{arrival}
-use Rattle.capture.specs.Read.{Answer}
+use Rattle.capture.specs.declared.reading.Answer.{Answer}
 use Rattle.capture_lines.specs.declared.Line.{Line}
 use Rattle.capture_lines.specs.declared.Line.TheVariants.{Last, Image, Arrival}
 

@@ -2,13 +2,10 @@
 #![tactic(auto)]
 
 ghost use Rattle.std.specs.Prelude.{◌≡◌};
-ghost use Rattle.capture.specs.Numbers.{answer_of};
 ghost use Rattle.capture_lines.specs.Lines.{line_of, numbers_of, Lists};
 
-use capture::Cursor;
 use capture::kinds::Kind;
-use capture::reading::{Found, next};
-use capture::refusal::Refusal;
+use capture::reading::Answer;
 
 // A line by what it tells: it has as many numbers as that needs.
 #[derive(Drop)]
@@ -32,27 +29,25 @@ impl Line {
     }
 }
 
-// The line for what stands at an offset of the bytes at hand, which begin `base` bytes into the capture.
-pub fn line_of(base: u64, cursor: Cursor, seen: Result<Option<Found>, Refusal>) -> Line
-    ensures { Lists result (line_of base (answer_of cursor.offset seen)) }
+// The line for an answer, of any numbers; the bytes read begin `base` bytes into the capture.
+#[tactic(auto, unfolding(crate::specs::Lines::line_of))]
+pub fn line_of(base: u64, answer: Answer) -> Line
+    ensures { Lists result (line_of base answer) }
 {
-    let offset = base.wrapping_add(next(seen, cursor).offset as u64);
-    match seen {
-        Ok(None) => Line::Last([0, 0, offset]),
-        Err(refusal) => Line::Last([u64::from(u32::from(refusal)), 0, offset]),
-        Ok(Some(found)) => match found.kind {
-            Kind::Arrival => Line::Arrival([
-                0,
-                u64::from(u32::from(found.kind)),
-                offset,
-                u64::from(found.channel),
-                u64::from(found.word),
-                u64::from(found.stamp),
-            ]),
-            Kind::OldImage | Kind::Image => {
-                let kind = u64::from(u32::from(found.kind));
-                Line::Image([0, kind, offset, u64::from(found.channel)])
-            }
-        },
+    let offset = base.wrapping_add(answer.next.offset as u64);
+    if answer.kind == 0 {
+        return Line::Last([u64::from(answer.number), 0, offset]);
     }
+    let kind = u64::from(answer.kind);
+    if answer.kind == u32::from(Kind::Arrival) {
+        return Line::Arrival([
+            0,
+            kind,
+            offset,
+            u64::from(answer.channel),
+            u64::from(answer.word),
+            u64::from(answer.stamp),
+        ]);
+    }
+    Line::Image([0, kind, offset, u64::from(answer.channel)])
 }

@@ -3,7 +3,8 @@
 use Rattle.std.proofs.Common.{◌≡◌, ℕ, ◌<◌, ◌≤◌, List, length, Ok, Some, ap, ◌∙◌}
 use Rattle.capture.specs.Laws.{MovesOn}
 use Rattle.capture.specs.Numbers.{answer_of}
-use Rattle.capture.specs.Read.{Answer, read_at}
+use Rattle.capture.specs.declared.reading.Answer.{Answer}
+use Rattle.capture.specs.Read.{read_at}
 use Rattle.capture.specs.declared.reading.Found.{Found}
 use Rattle.capture.proofs.Known.{some_kind}
 use Rattle.capture.proofs.Theorems.{moves_on}

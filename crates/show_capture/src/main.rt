@@ -86,7 +86,7 @@ fn show_at(
 {
     let cursor = Cursor { offset: at };
     let seen = capture::reading::read(bytes, cursor, lent);
-    let line = capture_lines::line_of(base, cursor, seen);
+    let line = capture_lines::line_of(base, capture::reading::answer_of(cursor, seen));
     match seen {
         Ok(Some(found)) => {
             let commands = &lent[..found.kind.lent()];
