@@ -36,7 +36,7 @@ fn argument(env: &impl Env, index: usize) -> Token {
 }
 
 fn is_number(token: Token) -> bool {
-    matches!(token, Token::Number(_))
+    token.begun && !token.wrong
 }
 
 fn name(reason: Reason) -> &'static str {

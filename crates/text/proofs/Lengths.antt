@@ -8,11 +8,11 @@ use lib.Dec.{ltb}
 use lib.ListN.{length, set, length-set}
 use Rattle.text.specs.declared.list.Listed.{Listed}
 use Rattle.text.specs.Token.{token_number}
-use Rattle.text.specs.Listed.{has_begun, stored_in, parts, list_after}
+use Rattle.text.specs.Listed.{stored_in, parts, list_after}
 
 pub length-stored : (list : List ℕ) (at : Listed) → length (stored_in list at) ≡ length list
 unfolding stored_in
-length-stored list at = go (has_begun at.token) (ltb at.count (length list))
+length-stored list at = go at.token.begun (ltb at.count (length list))
   where
     go : (a b : Bool) → length (cond a (cond b (set list at.count (token_number at.token)) list) list) ≡ length list
     go true true = simp length-set

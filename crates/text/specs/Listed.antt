@@ -1,7 +1,6 @@
 -- Numbers of a text put into a lent list, one after the other: blanks and line ends part them.
 use Rattle.std.specs.Prelude.{ℕ, ◌+◌, Bool, true, false, cond, List, eqb, ltb, length, set}
 use Rattle.text.specs.declared.token.Token.{Token}
-use Rattle.text.specs.declared.token.Token.TheVariants.{Empty, Number, Wrong}
 use Rattle.text.specs.declared.list.Listed.{Listed}
 use Rattle.text.specs.Bytes.{is_blank}
 use Rattle.text.specs.Token.{none, token_byte, token_number}
@@ -13,20 +12,14 @@ listed_of token count full = record { token = token; count = count; full = full 
 abbrev pub begun_list : Listed
 begun_list = listed_of none 0 false
 
--- whether a token has a byte
-abbrev pub has_begun : Token → Bool
-has_begun Empty = false
-has_begun (Number n) = true
-has_begun Wrong = true
-
 -- a token ends: its number is stored behind the others where there is room
 unfoldable pub stored : ℕ → Listed → Listed
 stored room at =
-    cond (has_begun at.token) (cond (ltb at.count room) (listed_of none (at.count + 1) at.full) (listed_of none at.count true)) at
+    cond at.token.begun (cond (ltb at.count room) (listed_of none (at.count + 1) at.full) (listed_of none at.count true)) at
 
 unfoldable pub stored_in : List ℕ → Listed → List ℕ
 stored_in list at =
-    cond (has_begun at.token) (cond (ltb at.count (length list)) (set list at.count (token_number at.token)) list) list
+    cond at.token.begun (cond (ltb at.count (length list)) (set list at.count (token_number at.token)) list) list
 
 -- "numbers separated by blanks and line ends"
 unfoldable pub parts : ℕ → Bool

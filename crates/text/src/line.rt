@@ -4,16 +4,19 @@ ghost use Rattle.text.specs.Line.{ended, blanked, prefixed, word_byte, grown, va
 
 use crate::bytes;
 
-// Where a line stands; a wrong line stays wrong.
-#[derive(Clone, Copy, PartialEq, Eq)]
-pub enum Place {
-    BeforeWord,
-    InWord,
-    BehindWord,
-    InValue,
-    BehindValue,
-    Wrong,
-}
+// Where a line stands: before the word, in it, behind it, in the value, behind it, or wrong. A line holds any number here, and every one above 4 is
+// wrong for good.
+const BEFORE_WORD: u32 = 0;
+
+const IN_WORD: u32 = 1;
+
+const BEHIND_WORD: u32 = 2;
+
+const IN_VALUE: u32 = 3;
+
+const BEHIND_VALUE: u32 = 4;
+
+const WRONG: u32 = 5;
 
 // The digits that a word has at most.
 const WORD_DIGITS: u32 = 8;
@@ -21,7 +24,7 @@ const WORD_DIGITS: u32 = 8;
 // A line as far as it was read: its place, whether `0x` or `-` was read, the digits of its field, its word, and the size of its value.
 #[derive(Clone, Copy)]
 pub struct Line {
-    pub place: Place,
+    pub place: u32,
     pub mark: bool,
     pub digits: u32,
     pub word: u32,
@@ -40,7 +43,7 @@ pub fn begun() -> Line
     ensures { result ≡ Rattle.text.specs.Line.begun }
 {
     Line {
-        place: Place::BeforeWord,
+        place: BEFORE_WORD,
         mark: false,
         digits: 0,
         word: 0,
@@ -52,13 +55,13 @@ fn wrong() -> Line
     ensures { result ≡ Rattle.text.specs.Line.wrong }
 {
     Line {
-        place: Place::Wrong,
+        place: WRONG,
         ..begun()
     }
 }
 
 // A field ends: it has a digit.
-fn ended(at: Line, place: Place) -> Line
+fn ended(at: Line, place: u32) -> Line
     ensures { result ≡ ended at place }
 {
     if at.digits == 0 {
@@ -71,8 +74,8 @@ fn blanked(at: Line) -> Line
     ensures { result ≡ blanked at }
 {
     match at.place {
-        Place::InWord => ended(at, Place::BehindWord),
-        Place::InValue => ended(at, Place::BehindValue),
+        IN_WORD => ended(at, BEHIND_WORD),
+        IN_VALUE => ended(at, BEHIND_VALUE),
         _ => at,
     }
 }
@@ -83,7 +86,7 @@ fn prefixed(at: Line, byte: u8) -> Line
 {
     if !at.mark && at.digits == 1 && at.word == 0 && matches!(byte, b'x' | b'X') {
         return Line {
-            place: Place::InWord,
+            place: IN_WORD,
             mark: true,
             ..begun()
         };
@@ -99,7 +102,7 @@ fn word_byte(at: Line, byte: u8) -> Line
         Some(digit) => {
             if at.digits < WORD_DIGITS {
                 return Line {
-                    place: Place::InWord,
+                    place: IN_WORD,
                     digits: at.digits + 1,
                     word: at.word % 0x1000_0000 * 16 + digit,
                     size: 0,
@@ -129,7 +132,7 @@ fn value_byte(at: Line, byte: u8) -> Line
 {
     match bytes::digit(byte) {
         Some(digit) if digit < 10 => Line {
-            place: Place::InValue,
+            place: IN_VALUE,
             digits: 1,
             size: grown(at.size, digit),
             ..at
@@ -144,7 +147,7 @@ fn signed(at: Line, byte: u8) -> Line
 {
     if !at.mark && at.digits == 0 && byte == b'-' {
         return Line {
-            place: Place::InValue,
+            place: IN_VALUE,
             mark: true,
             size: 0,
             ..at
@@ -157,9 +160,9 @@ fn signed(at: Line, byte: u8) -> Line
 fn opened(at: Line) -> Line
     ensures { result ≡ opened at }
 {
-    if at.place == Place::BehindWord {
+    if at.place == BEHIND_WORD {
         return Line {
-            place: Place::InValue,
+            place: IN_VALUE,
             word: at.word,
             ..begun()
         };
@@ -171,9 +174,9 @@ fn filled(at: Line, byte: u8) -> Line
     ensures { result ≡ filled at byte }
 {
     match at.place {
-        Place::BeforeWord | Place::InWord => word_byte(at, byte),
-        Place::BehindWord | Place::InValue => value_byte(opened(at), byte),
-        Place::BehindValue | Place::Wrong => wrong(),
+        BEFORE_WORD | IN_WORD => word_byte(at, byte),
+        BEHIND_WORD | IN_VALUE => value_byte(opened(at), byte),
+        _ => wrong(),
     }
 }
 
@@ -192,8 +195,8 @@ fn outcome(at: Line) -> Option<Asked>
     ensures { result ≡ outcome at }
 {
     match at.place {
-        Place::BehindWord => Some(Asked::Read(at.word)),
-        Place::BehindValue => Some(Asked::Encode(at.word, at.mark, at.size % 0x8000_0000)),
+        BEHIND_WORD => Some(Asked::Read(at.word)),
+        BEHIND_VALUE => Some(Asked::Encode(at.word, at.mark, at.size % 0x8000_0000)),
         _ => None,
     }
 }

@@ -30,7 +30,7 @@ pub fn stored(list: &mut [u32], at: Listed) -> Listed
     ensures answer { result ≡ stored (length list.old) at }
     ensures after { list.new ≡ stored_in list.old at }
 {
-    if let Token::Empty = at.token {
+    if !at.token.begun {
         return at;
     }
     if at.count < list.len() {
