@@ -8,6 +8,7 @@ use Rattle.text.specs.declared.line.Asked.{Asked}
 use Rattle.text.specs.declared.line.Asked.TheVariants.{Read, Encode}
 use Rattle.card_lines.specs.Decimal as decimal
 use Rattle.card_lines.specs.Decimal.{decimal_byte}
+use Rattle.card_lines.specs.declared.decimal.Decimal.{Decimal}
 use Rattle.card_lines.specs.declared.fields.Ended.{Ended}
 use Rattle.card_lines.specs.declared.fields.Reading.{Reading}
 use Rattle.card_lines.specs.declared.fields.Fields.{Fields}
@@ -38,12 +39,12 @@ too_many = 6
 abbrev pub ended_of : ℕ → ℕ → Bool → ℕ → ℕ → ℕ → ℕ → Ended
 ended_of count name wrong a b c d = record { count = count; name = name; wrong = wrong; a = a; b = b; c = c; d = d }
 
-abbrev pub reading_of : Line → Option ℕ → Reading
-reading_of word number = record { word = word; number = number }
+abbrev pub reading_of : Bool → Line → Decimal → Reading
+reading_of inside word number = record { inside = inside; word = word; number = number }
 
 -- between two fields
-abbrev pub no_field : Option Reading
-no_field = None
+abbrev pub no_field : Reading
+no_field = reading_of false line.begun decimal.none
 
 abbrev pub begun : Fields
 begun = record { ended = ended_of 0 no_name false 0 0 0 0; reading = no_field }
@@ -52,14 +53,9 @@ begun = record { ended = ended_of 0 no_name false 0 0 0 0; reading = no_field }
 abbrev pub name_byte : Ended → ℕ → Ended
 name_byte f b = cond (eqb f.count 0) (ended_of 0 (named f.name b) f.wrong f.a f.b f.c f.d) f
 
--- a field is read both ways
-abbrev pub read_on : Reading → ℕ → Reading
-read_on o b = reading_of (line.taken o.word b) (decimal_byte o.number b)
-
--- the byte begins a field, or is one more of it
-abbrev pub reading_byte : Option Reading → ℕ → Reading
-reading_byte None b = read_on (reading_of line.begun decimal.none) b
-reading_byte (Some o) b = read_on o b
+-- a field is read both ways; the byte begins it, or is one more of it
+abbrev pub reading_byte : Reading → ℕ → Reading
+reading_byte o b = reading_of true (line.taken o.word b) (decimal_byte o.number b)
 
 -- "WORD hexadecimal, the others decimal": a line's first field, and an async word behind its step
 abbrev pub takes_word : Ended → Bool
@@ -73,9 +69,12 @@ read_as (Some (Encode w minus size)) = None
 abbrev pub as_word : Line → Option ℕ
 as_word l = read_as (line.asked_by l)
 
+abbrev pub as_number : Decimal → Option ℕ
+as_number n = cond n.wrong None (Some n.value)
+
 -- the number that a field says, if it says one
 abbrev pub value_of : Ended → Reading → Option ℕ
-value_of f o = cond (takes_word f) (as_word o.word) o.number
+value_of f o = cond (takes_word f) (as_word o.word) (as_number o.number)
 
 abbrev pub more : ℕ → ℕ
 more count = cond (ltb count too_many) (count + 1) too_many
@@ -100,17 +99,13 @@ abbrev pub field_ended : Ended → Reading → Ended
 field_ended f o = added f (value_of f o)
 
 -- the fields at a blank or at the end of the line
-abbrev pub closed_by : Ended → Option Reading → Ended
-closed_by f None = f
-closed_by f (Some o) = field_ended f o
-
 unfoldable pub closed : Fields → Ended
-closed l = closed_by l.ended l.reading
+closed l = cond l.reading.inside (field_ended l.ended l.reading) l.ended
 
 -- the line with one byte more
 unfoldable pub taken : Fields → ℕ → Fields
 taken l b =
-    cond (is_blank b) (record { ended = closed l; reading = no_field }) (record { ended = name_byte l.ended b; reading = Some (reading_byte l.reading b) })
+    cond (is_blank b) (record { ended = closed l; reading = no_field }) (record { ended = name_byte l.ended b; reading = reading_byte l.reading b })
 
 -- what the fields say
 unfoldable pub entry_of : Ended → Entry

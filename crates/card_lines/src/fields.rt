@@ -1,8 +1,9 @@
 // The fields of a line, and what they say.
 ghost use Rattle.std.specs.Prelude.{◌≡◌};
-ghost use Rattle.card_lines.specs.Fields.{named, begun, reading_byte, takes_word, as_word, value_of, more, is_name, valued, unvalued, field_ended, closed, taken, entry_of, said};
+ghost use Rattle.card_lines.specs.Fields.{named, begun, reading_byte, takes_word, as_word, as_number, value_of, more, is_name, valued, unvalued, field_ended, closed, taken, entry_of, said};
 
 use crate::decimal;
+use crate::decimal::Decimal;
 use text::line::{Asked, Line};
 use text::{bytes, line};
 
@@ -34,18 +35,19 @@ pub struct Ended {
     pub d: u32,
 }
 
-// The field that is being read, as a word and as a number.
+// The field that is being read, as a word and as a number; `inside` where it has begun. What stands in it before that counts too, so it is no option.
 #[derive(Clone, Copy)]
 pub struct Reading {
+    pub inside: bool,
     pub word: Line,
-    pub number: Option<u32>,
+    pub number: Decimal,
 }
 
-// A line as far as it was read; between two fields none is being read.
+// A line as far as it was read.
 #[derive(Clone, Copy)]
 pub struct Fields {
     pub ended: Ended,
-    pub reading: Option<Reading>,
+    pub reading: Reading,
 }
 
 // What a line says: nothing; a word, or the parity; an async word with its step; an output; or none of these. Blank and none
@@ -57,6 +59,17 @@ pub enum Entry {
     Async(u32, u32),
     Out(u32, u32, u32, u32),
     NoEntry,
+}
+
+// No field is being read.
+fn no_field() -> Reading
+    ensures { result ≡ Rattle.card_lines.specs.Fields.no_field }
+{
+    Reading {
+        inside: false,
+        word: line::begun(),
+        number: decimal::none(),
+    }
 }
 
 // The start of a line.
@@ -74,7 +87,7 @@ pub fn begun() -> Fields
     };
     Fields {
         ended,
-        reading: None,
+        reading: no_field(),
     }
 }
 
@@ -101,17 +114,14 @@ fn name_byte(ended: Ended, byte: u8) -> Ended
     ended
 }
 
-// The field that is read, or the next one, with one more byte.
-fn reading_byte(reading: Option<Reading>, byte: u8) -> Reading
+// The field that is read with one more byte.
+fn reading_byte(reading: Reading, byte: u8) -> Reading
     ensures { result ≡ reading_byte reading byte }
 {
-    let before = reading.unwrap_or(Reading {
-        word: line::begun(),
-        number: Some(0),
-    });
     Reading {
-        word: line::taken(before.word, byte),
-        number: decimal::decimal_byte(before.number, byte),
+        inside: true,
+        word: line::taken(reading.word, byte),
+        number: decimal::decimal_byte(reading.number, byte),
     }
 }
 
@@ -131,6 +141,15 @@ fn as_word(word: Line) -> Option<u32>
     }
 }
 
+fn as_number(number: Decimal) -> Option<u32>
+    ensures { result ≡ as_number number }
+{
+    if number.wrong {
+        return None;
+    }
+    Some(number.value)
+}
+
 // The number that the field that is read says, if it says one.
 fn value_of(ended: Ended, reading: Reading) -> Option<u32>
     ensures { result ≡ value_of ended reading }
@@ -138,7 +157,7 @@ fn value_of(ended: Ended, reading: Reading) -> Option<u32>
     if takes_word(ended) {
         return as_word(reading.word);
     }
-    reading.number
+    as_number(reading.number)
 }
 
 // One more field.
@@ -202,10 +221,10 @@ fn field_ended(ended: Ended, reading: Reading) -> Ended
 fn closed(at: Fields) -> Ended
     ensures { result ≡ closed at }
 {
-    match at.reading {
-        Some(reading) => field_ended(at.ended, reading),
-        None => at.ended,
+    if at.reading.inside {
+        return field_ended(at.ended, at.reading);
     }
+    at.ended
 }
 
 // The line with one byte more.
@@ -216,12 +235,12 @@ pub fn taken(at: Fields, byte: u8) -> Fields
     if bytes::is_blank(byte) {
         return Fields {
             ended: closed(at),
-            reading: None,
+            reading: no_field(),
         };
     }
     Fields {
         ended: name_byte(at.ended, byte),
-        reading: Some(reading_byte(at.reading, byte)),
+        reading: reading_byte(at.reading, byte),
     }
 }
 
