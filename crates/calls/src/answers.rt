@@ -1,14 +1,14 @@
 // An answer as a list of numbers: the answer's number, then its values.
 ghost use Rattle.std.specs.Prelude.{◌≡◌};
 ghost use Rattle.arrival.specs.Arrival.{outcome};
-ghost use Rattle.channel_calls.specs.Answer.{accepted, answered};
+ghost use Rattle.channel_calls.specs.Answer.{accepted, answered_by};
 ghost use Rattle.channel_calls.specs.Answers.{numbers_of};
 ghost use Rattle.registers.specs.Access.{access_numbers};
 ghost use Rattle.calls.specs.Listed.{Lists};
 
 use arrival::Arrival;
-use block::refusal::Refusal;
 use channel_calls::calls::Reply;
+use channel_calls::numbers::Numbered;
 use registers::accesses::Access;
 
 // The numbers in the first `count` words, and zeros behind them: a list that grows would need a heap, and there is none.
@@ -33,13 +33,13 @@ pub fn outcome(arrival: Arrival) -> u32
 }
 
 // The numbers of an access's answer. A refusal has its number and as many zeros as the access has values.
-pub fn numbers_of(access: Access, answer: Result<Reply, Refusal>) -> Numbers
-    ensures { Lists result (access_numbers access (answered answer)) }
+pub fn numbers_of<E: Numbered>(access: Access, answer: Result<Reply, E>) -> Numbers
+    ensures { Lists result (access_numbers access (answered_by E.number answer)) }
 {
     match answer {
         Err(refusal) => Numbers {
             count: 1 + answer_values::values(access),
-            words: [u32::from(refusal), 0, 0, 0, 0, 0, 0, 0],
+            words: [refusal.number(), 0, 0, 0, 0, 0, 0, 0],
         },
         Ok(reply) => values_of(reply),
     }

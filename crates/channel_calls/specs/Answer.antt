@@ -34,7 +34,11 @@ accepted (reply.Arrived a) = Arrived a
 accepted (reply.Entry s w t) = Entry s w t
 accepted (reply.Stepped o) = Stepped o
 
--- what a call answers, accepted or refused
+-- what a call answers, accepted or refused, by the number that stands for each refusal
+abbrev pub answered_by : {E : Type 0} → (E → ℕ) → Result Reply E → Answer
+answered_by number (Ok r) = accepted r
+answered_by number (Err e) = Refused (number e)
+
+-- the same, where the refusals are those of the table
 abbrev pub answered : Result Reply Refusal → Answer
-answered (Ok r) = accepted r
-answered (Err r) = Refused (refusal_number r)
+answered = answered_by refusal_number

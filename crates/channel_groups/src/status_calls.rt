@@ -6,6 +6,7 @@ ghost use Rattle.channel_groups.specs.Groups.{status_answer, status_after};
 ghost use Rattle.channel_groups.specs.Groups.{status_shown};
 
 use channel_calls::calls::{Reply, StatusCall};
+use channel_calls::numbers::Answered;
 
 pub fn on_status(block: &mut [u32], call: StatusCall) -> Reply
     requires { Whole block.old }
@@ -33,17 +34,17 @@ pub fn on_status(block: &mut [u32], call: StatusCall) -> Reply
 }
 
 // What a call shows of the block that the rule left.
-pub fn show(block: &[u32], call: StatusCall, reply: Reply) -> Reply
+pub fn show<A: Answered>(block: &[u32], call: StatusCall, answer: A) -> A
     requires { Whole block.now }
-    ensures { accepted result ≡ status_shown call block.now (accepted reply) }
+    ensures { A.answered result ≡ status_shown call block.now (A.answered answer) }
 {
     match call {
-        StatusCall::ReadStatus => Reply::Value(block[block::layout::LATCH]),
-        StatusCall::ReadPending => Reply::Value(status::rule::pending(block)),
-        StatusCall::ClearLatch(_) => reply,
-        StatusCall::WriteEnable(_) => reply,
-        StatusCall::ReadEnable => reply,
-        StatusCall::WriteLevelMask(_) => reply,
-        StatusCall::ReadLevelMask => reply,
+        StatusCall::ReadStatus => A::accepted(Reply::Value(block[block::layout::LATCH])),
+        StatusCall::ReadPending => A::accepted(Reply::Value(status::rule::pending(block))),
+        StatusCall::ClearLatch(_) => answer,
+        StatusCall::WriteEnable(_) => answer,
+        StatusCall::ReadEnable => answer,
+        StatusCall::WriteLevelMask(_) => answer,
+        StatusCall::ReadLevelMask => answer,
     }
 }

@@ -1,12 +1,12 @@
 // What becomes of one arrival, followed from access to access.
 ghost use Rattle.std.specs.Prelude.{◌≡◌, ◌<◌};
-ghost use Rattle.channel_calls.specs.Answer.{accepted, answered};
+ghost use Rattle.channel_calls.specs.Answer.{accepted, answered_by};
 ghost use Rattle.following.specs.Course.{most_held, held_before, level_after, gone, waiting_after, passed, entered_by, entered_with, arrived, next, reason_by};
 
 use arrival::Arrival;
 use block::modes::FIFO_MODE;
-use block::refusal::Refusal;
 use channel_calls::calls::Reply;
+use channel_calls::numbers::Numbered;
 use receive_changes::Happening;
 use registers::accesses::Access;
 
@@ -129,12 +129,12 @@ fn entered_by(level: u32, outcome: Arrival) -> Course
 }
 
 // The arrival with its answer.
-fn entered_with(level: u32, answer: Result<Reply, Refusal>) -> Course
-    ensures { result ≡ entered_with level (answered answer) }
+fn entered_with<E: Numbered>(level: u32, answer: Result<Reply, E>) -> Course
+    ensures { result ≡ entered_with level (answered_by E.number answer) }
 {
     match answer {
         Ok(reply) => entered_as(level, reply),
-        Err(refusal) => Course::Known(Reason::RefusedBy(u32::from(refusal))),
+        Err(refusal) => Course::Known(Reason::RefusedBy(refusal.number())),
     }
 }
 
@@ -154,8 +154,8 @@ fn entered_as(level: u32, reply: Reply) -> Course
 }
 
 // The arrival itself.
-fn arrived(course: Course, answer: Result<Reply, Refusal>) -> Course
-    ensures { result ≡ arrived course (answered answer) }
+fn arrived<E: Numbered>(course: Course, answer: Result<Reply, E>) -> Course
+    ensures { result ≡ arrived course (answered_by E.number answer) }
 {
     match course {
         Course::Coming(level) => entered_with(level, answer),
@@ -164,15 +164,15 @@ fn arrived(course: Course, answer: Result<Reply, Refusal>) -> Course
     }
 }
 
-fn course_after(
+fn course_after<E: Numbered>(
     course: Course,
     happening: Happening,
     place: u32,
     at: u32,
-    answer: Result<Reply, Refusal>,
+    answer: Result<Reply, E>,
 ) -> Course
     requires { held_before course < most_held }
-    ensures { result ≡ Rattle.following.specs.Course.course_after course happening place at (answered answer) }
+    ensures { result ≡ Rattle.following.specs.Course.course_after course happening place at (answered_by E.number answer) }
 {
     if at == place {
         return arrived(course, answer);
@@ -181,16 +181,16 @@ fn course_after(
 }
 
 // One access more: the one at place `at`, where the arrival is at `place`.
-pub fn next(
+pub fn next<E: Numbered>(
     watch: Watch,
     channel: u32,
     place: u32,
     at: u32,
     access: Access,
-    answer: Result<Reply, Refusal>,
+    answer: Result<Reply, E>,
 ) -> Watch
     requires { held_before watch.course < most_held }
-    ensures { result ≡ next channel place at access (answered answer) watch }
+    ensures { result ≡ next channel place at access (answered_by E.number answer) watch }
 {
     let mode = watch.mode;
     let course = watch.course;

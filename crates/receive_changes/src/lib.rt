@@ -2,13 +2,13 @@
 #![tactic(auto)]
 
 ghost use Rattle.std.specs.Prelude.{◌≡◌};
-ghost use Rattle.channel_calls.specs.Answer.{accepted, answered};
+ghost use Rattle.channel_calls.specs.Answer.{accepted, answered_by};
 ghost use Rattle.receive_changes.specs.Changes.{left, by_setting, by_settings, by_test, by_outcome, by_arrival, by_read, by_receive, on_called, by_call, by_access};
 
 use arrival::Arrival;
 use block::modes::FIFO_MODE;
-use block::refusal::Refusal;
 use channel_calls::calls::{ChannelCall, ReceiveCall, Reply, Setting, SettingCall, TestCall};
+use channel_calls::numbers::Numbered;
 use module::calls::Call;
 use registers::accesses::Access;
 
@@ -202,8 +202,8 @@ fn by_call(channel: u32, mode: u32, call: Call, reply: Reply) -> Seen
 }
 
 // A call with its answer: a refused one changes nothing.
-fn directly(channel: u32, mode: u32, call: Call, answer: Result<Reply, Refusal>) -> Seen
-    ensures { result ≡ Rattle.receive_changes.specs.Changes.directly channel mode call (answered answer) }
+fn directly<E: Numbered>(channel: u32, mode: u32, call: Call, answer: Result<Reply, E>) -> Seen
+    ensures { result ≡ Rattle.receive_changes.specs.Changes.directly channel mode call (answered_by E.number answer) }
 {
     match answer {
         Ok(reply) => by_call(channel, mode, call, reply),
@@ -212,8 +212,13 @@ fn directly(channel: u32, mode: u32, call: Call, answer: Result<Reply, Refusal>)
 }
 
 // An access with its answer. A register access never changes a receive FIFO.
-pub fn by_access(channel: u32, mode: u32, access: Access, answer: Result<Reply, Refusal>) -> Seen
-    ensures { result ≡ by_access channel mode access (answered answer) }
+pub fn by_access<E: Numbered>(
+    channel: u32,
+    mode: u32,
+    access: Access,
+    answer: Result<Reply, E>,
+) -> Seen
+    ensures { result ≡ by_access channel mode access (answered_by E.number answer) }
 {
     match access {
         Access::Direct(call) => directly(channel, mode, call, answer),

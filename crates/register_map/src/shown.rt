@@ -1,10 +1,10 @@
 // How a register shows what its call answers.
 ghost use Rattle.std.specs.Prelude.{◌≡◌};
-ghost use Rattle.channel_calls.specs.Answer.{accepted, answered};
+ghost use Rattle.channel_calls.specs.Answer.{accepted, answered_by};
 ghost use Rattle.register_map.specs.Shown.{status_bits, bits_of, shown};
 
-use block::refusal::Refusal;
 use channel_calls::calls::Reply;
+use channel_calls::numbers::Numbered;
 
 // Which bits of a value a register has.
 #[derive(Drop)]
@@ -58,8 +58,8 @@ fn bits_of(bits: Bits, value: u32) -> u32
 }
 
 // A register's answer by that of its call: a value, 0 for a write that is done, or the same refusal.
-pub fn shown(bits: Bits, answer: Result<Reply, Refusal>) -> Result<Reply, Refusal>
-    ensures { answered result ≡ shown bits (answered answer) }
+pub fn shown<E: Numbered>(bits: Bits, answer: Result<Reply, E>) -> Result<Reply, E>
+    ensures { answered_by E.number result ≡ shown bits (answered_by E.number answer) }
 {
     match answer {
         Ok(reply) => Ok(value_shown(bits, reply)),

@@ -4,10 +4,10 @@ use mathlib.Core.Path.{refl}
 use Rattle.receive_changes.proofs.by_access.Goals as goal
 
 pub returns-in-Direct : goal.returns-in-Direct
-returns-in-Direct c = rw (c.in-Direct.is, c.directly.ensures) refl
+returns-in-Direct g c = rw (c.in-Direct.is, c.directly.ensures) refl
 
 pub returns-in-ReadRegister : goal.returns-in-ReadRegister
-returns-in-ReadRegister c = rw (c.in-ReadRegister.is, c.left.ensures) refl
+returns-in-ReadRegister g c = rw (c.in-ReadRegister.is, c.left.ensures) refl
 
 pub returns-in-WriteRegister : goal.returns-in-WriteRegister
-returns-in-WriteRegister c = rw (c.in-WriteRegister.is, c.left-in-WriteRegister.ensures) refl
+returns-in-WriteRegister g c = rw (c.in-WriteRegister.is, c.left-in-WriteRegister.ensures) refl

@@ -5,7 +5,7 @@ use Rattle.calls.proofs.Listing.{refused, any_values}
 use Rattle.calls.proofs.answers.numbers_of.Goals as goal
 
 pub returns-in-Err : goal.returns-in-Err
-returns-in-Err c = rw (c.in-Err.is, c.from.ensures) (refused _ (access_values c.args.access) c.values.result (c.values.ensures.value, c.values.ensures.bound))
+returns-in-Err g c = rw (c.in-Err.is, c.number.ensures) (refused _ (access_values c.args.access) c.values.result (c.values.ensures.value, c.values.ensures.bound))
 
 pub returns-in-Ok : goal.returns-in-Ok
-returns-in-Ok c = rw (c.in-Ok.is, ← any_values (access_values c.args.access) c.in-Ok.reply) c.values_of.ensures
+returns-in-Ok g c = rw (c.in-Ok.is, ← any_values (access_values c.args.access) c.in-Ok.reply) c.values_of.ensures

@@ -1,10 +1,9 @@
 -- `channel_groups::status_calls::show` meets its contract: each call from what its callee ensures.
 -- Assumes nothing.
-use mathlib.Core.Path.{refl}
 use Rattle.channel_groups.proofs.status_calls.show.Goals as goal
 
 pub returns-in-ReadStatus : goal.returns-in-ReadStatus
-returns-in-ReadStatus c = rw c.in-ReadStatus.is refl
+returns-in-ReadStatus g c = rw c.in-ReadStatus.is c.accepted.ensures
 
 pub returns-in-ReadPending : goal.returns-in-ReadPending
-returns-in-ReadPending c = cc
+returns-in-ReadPending g c = cc

@@ -4,7 +4,7 @@ use Rattle.word.proofs.Branches.{branches}
 use Rattle.following.proofs.course.course_after.Goals as goal
 
 pub returns-then-at-place : goal.returns-then-at-place
-returns-then-at-place c = search branches
+returns-then-at-place g c = search branches
 
 pub returns : goal.returns
-returns c = search branches
+returns g c = search branches

@@ -4,4 +4,4 @@ use mathlib.Core.Path.{refl}
 use Rattle.following.proofs.course.next.Goals as goal
 
 pub returns : goal.returns
-returns c = rw (c.course_after-after.ensures, c.by_access-seen.ensures) refl
+returns g c = rw (c.course_after-after.ensures, c.by_access-seen.ensures) refl
