@@ -155,13 +155,7 @@ fn set(
     );
 }
 
-fn arrive(
-    out: &mut impl Write,
-    mem: &mut [u32],
-    channel: u32,
-    text: &str,
-    arriving: u32,
-) {
+fn arrive(out: &mut impl Write, mem: &mut [u32], channel: u32, text: &str, arriving: u32) {
     call(
         out,
         mem,
@@ -181,22 +175,11 @@ fn read(out: &mut impl Write, mem: &mut [u32], channel: u32) {
     );
 }
 
-fn transmit(
-    out: &mut impl Write,
-    mem: &mut [u32],
-    text: &str,
-    transmit_call: TransmitCall,
-) {
+fn transmit(out: &mut impl Write, mem: &mut [u32], text: &str, transmit_call: TransmitCall) {
     call(out, mem, 2, text, ChannelCall::Transmit(transmit_call));
 }
 
-fn write_message(
-    out: &mut impl Write,
-    mem: &mut [u32],
-    text: &str,
-    address: u32,
-    value: u32,
-) {
+fn write_message(out: &mut impl Write, mem: &mut [u32], text: &str, address: u32, value: u32) {
     call(
         out,
         mem,
@@ -206,13 +189,7 @@ fn write_message(
     );
 }
 
-fn write_command(
-    out: &mut impl Write,
-    mem: &mut [u32],
-    text: &str,
-    address: u32,
-    command: u32,
-) {
+fn write_command(out: &mut impl Write, mem: &mut [u32], text: &str, address: u32, command: u32) {
     call(
         out,
         mem,
