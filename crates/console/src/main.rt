@@ -23,8 +23,13 @@ fn room() -> [u32; 49152] {
     [0; 49152]
 }
 
+// One piece of a line, in a write of its own; the next piece is tried where this one fails, as no format does.
 fn print(out: &mut impl Write, text: &[u8]) {
     streams::write_all(out, text);
+}
+
+fn print_number(out: &mut impl Write, number: u32) {
+    streams::print_decimal(out, u64::from(number));
 }
 
 // The digits of a part below one, with the point before them; none where nothing is left.
@@ -59,7 +64,8 @@ fn print_units(out: &mut impl Write, units: f64)
 }
 
 fn print_refused(out: &mut impl Write, refusal: Refusal) {
-    let _ = write!(out, "refused {}", u32::from(refusal));
+    print(out, b"refused ");
+    print_number(out, refusal.into());
 }
 
 // What a word reads as.
@@ -70,10 +76,15 @@ fn print_reading(out: &mut impl Write, list: &[u32], word: u32) {
             print_units(out, units);
         }
         Ok(Reading::Decimal(value)) => {
-            let _ = write!(out, "decimal {value}");
+            print(out, b"decimal ");
+            if signs::is_minus(value.into()) {
+                print(out, b"-");
+            }
+            print_number(out, value.unsigned_abs());
         }
         Ok(Reading::Bits(field)) => {
-            let _ = write!(out, "bits {field}");
+            print(out, b"bits ");
+            print_number(out, field);
         }
         Err(refusal) => print_refused(out, refusal),
     }
@@ -83,7 +94,8 @@ fn print_reading(out: &mut impl Write, list: &[u32], word: u32) {
 fn print_encoded(out: &mut impl Write, list: &[u32], word: u32, value: i32) {
     match readings::encoding::encode(list, word, value) {
         Ok(made) => {
-            let _ = write!(out, "word {made:08x}");
+            print(out, b"word ");
+            streams::print_hex(out, made);
         }
         Err(refusal) => print_refused(out, refusal),
     }
@@ -91,7 +103,14 @@ fn print_encoded(out: &mut impl Write, list: &[u32], word: u32, value: i32) {
 
 // The label in octal, three digits.
 fn print_label(out: &mut impl Write, word: u32) {
-    let _ = write!(out, "{:03o} ", word::label(word));
+    let label = word::label(word);
+    let digits = [
+        b'0' + label / 64,
+        b'0' + label / 8 % 8,
+        b'0' + label % 8,
+        b' ',
+    ];
+    print(out, &digits);
 }
 
 // The line for one line of the input.

@@ -10,7 +10,6 @@ use following::course::Reason;
 use reasons::{MOST_ITEMS, Refusal};
 use sessions::ITEM_BYTES;
 use std::env::Env;
-use std::io;
 use std::io::{Read, Write};
 use text::token::Token;
 
@@ -39,6 +38,15 @@ fn is_number(token: Token) -> bool {
     token.begun && !token.wrong
 }
 
+// One piece of a line, in a write of its own; the next piece is tried where this one fails, as no format does.
+fn print(out: &mut impl Write, text: &str) {
+    streams::write_all(out, text.as_bytes());
+}
+
+fn print_number(out: &mut impl Write, number: u32) {
+    streams::print_decimal(out, u64::from(number));
+}
+
 fn name(reason: Reason) -> &'static str {
     match reason {
         Reason::NoReason => "none",
@@ -54,73 +62,107 @@ fn name(reason: Reason) -> &'static str {
     }
 }
 
-// What a reason means, as a line. In mailbox mode the word's entry is its index in the list.
-fn print_meaning(out: &mut impl Write, reason: Reason) -> io::Result<()> {
+// A sentence that ends in a number.
+fn print_with(out: &mut impl Write, text: &str, number: u32) {
+    print(out, text);
+    print_number(out, number);
+    print(out, ".");
+}
+
+// What a refusal of the question means.
+fn print_refusal(out: &mut impl Write, refusal: Refusal) {
+    print(
+        out,
+        match refusal {
+            Refusal::TooShort => "The working memory is too short for that many channels.",
+            Refusal::NoCount => "The channel count must be 1 to 12.",
+            Refusal::NoArrival => "There is no arrival at that place of the list.",
+            Refusal::TooManyItems => "The list has more than 4096 calls.",
+            Refusal::NoCall => "An item of the list is no call, or the last one is cut short.",
+        },
+    );
+}
+
+// What a reason means. In mailbox mode the word's entry is its index in the list.
+fn print_meaning(out: &mut impl Write, reason: Reason) {
     match reason {
-        Reason::NoReason => writeln!(out, "There is no reason."),
+        Reason::NoReason => print(out, "There is no reason."),
         Reason::RefusedBy(number) => {
-            writeln!(out, "The arrival was refused with number {number}.")
+            print_with(out, "The arrival was refused with number ", number)
         }
-        Reason::ReceiverOff => {
-            writeln!(
-                out,
-                "The receiver of the channel was off, so the word was ignored."
-            )
-        }
+        Reason::ReceiverOff => print(
+            out,
+            "The receiver of the channel was off, so the word was ignored.",
+        ),
         Reason::FilteredOut => {
-            writeln!(
+            print(
                 out,
                 "Match was on and the index of the word was not in the match set, so the word was filtered out.",
             )
         }
         Reason::DroppedOnFull => {
-            writeln!(
+            print(
                 out,
                 "The receive FIFO was full and bounded, so the entry of the word was dropped.",
             )
         }
         Reason::ListedAlready => {
-            writeln!(
+            print(
                 out,
                 "The index of the word was already listed, so it was not listed again.",
             )
         }
-        Reason::StillHeld => {
-            writeln!(
-                out,
-                "The entry of the word is still held in the receive FIFO."
-            )
-        }
+        Reason::StillHeld => print(
+            out,
+            "The entry of the word is still held in the receive FIFO.",
+        ),
         Reason::ReadAt(place) => {
-            writeln!(
+            print_with(
                 out,
-                "The entry of the word was read by the call at place {place}."
+                "The entry of the word was read by the call at place ",
+                place,
             )
         }
         Reason::ClearedAt(place) => {
-            writeln!(
+            print_with(
                 out,
-                "The entry of the word was cleared by the call at place {place}."
+                "The entry of the word was cleared by the call at place ",
+                place,
             )
         }
         Reason::OverwrittenAt(place) => {
-            writeln!(
+            print_with(
                 out,
-                "The entry of the word was overwritten by the call at place {place}."
+                "The entry of the word was overwritten by the call at place ",
+                place,
             )
         }
     }
 }
 
+// The answer's number, the name of a reason and what stands beside it, as a line.
+fn print_named(out: &mut impl Write, number: u32, reason: Reason) {
+    print_number(out, number);
+    print(out, " ");
+    print(out, name(reason));
+    print(out, " ");
+    print_number(out, reasons::beside(reason));
+    print(out, "\n");
+}
+
 // The two lines of an answer.
-fn print_answer(out: &mut impl Write, answer: Result<Reason, Refusal>) -> io::Result<()> {
+fn print_answer(out: &mut impl Write, answer: Result<Reason, Refusal>) {
     match answer {
         Ok(reason) => {
-            writeln!(out, "0 {} {}", name(reason), reasons::beside(reason))?;
-            print_meaning(out, reason)
+            print_named(out, 0, reason);
+            print_meaning(out, reason);
         }
-        Err(refusal) => writeln!(out, "{} none 0\n{refusal}", u32::from(refusal)),
+        Err(refusal) => {
+            print_named(out, refusal.into(), Reason::NoReason);
+            print_refusal(out, refusal);
+        }
     }
+    print(out, "\n");
 }
 
 // Room for the list.
@@ -131,7 +173,7 @@ fn room() -> [u8; ROOM] {
 // Explains a list of items.
 fn explain_list(out: &mut impl Write, count: u32, bytes: &[u8], place: u32) {
     let mut mem = sessions::memory();
-    let _ = print_answer(out, reasons::explain(count, bytes, place, &mut mem));
+    print_answer(out, reasons::explain(count, bytes, place, &mut mem));
 }
 
 // Explains the list on standard input.

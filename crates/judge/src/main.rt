@@ -6,39 +6,67 @@ use bench_card::Verdict;
 use card_text::faults::Fault;
 use card_text::judging::CardError;
 use card_text::{judging, reading, room};
-use std::fmt;
+use schedule::Output;
 use std::io::Write;
 
-// What is said of a card, as it is written.
-#[derive(Clone, Copy)]
-struct Answer(Result<Verdict, CardError>);
+// One piece of a line, in a write of its own; the next piece is tried where this one fails, as no format does.
+fn print(out: &mut impl Write, text: &[u8]) {
+    streams::write_all(out, text);
+}
 
-impl fmt::Display for Answer {
-    fn fmt<W: fmt::Write>(&self, f: &mut fmt::Formatter<W>) -> fmt::Result {
-        match self.0 {
-            Ok(Verdict::Yes) => write!(f, "0 yes"),
-            Ok(Verdict::Differs(place, due)) => {
-                let [form, x, y, z] = schedule::values(due);
-                write!(f, "0 {place} {form} {x} {y} {z}")
-            }
-            Ok(Verdict::Nothing(place)) => write!(f, "0 {place} nothing"),
-            Err(CardError::Refused(refusal)) => write!(f, "{} 0", u32::from(refusal)),
-            Err(CardError::WrongLine(fault, line)) => write!(f, "line {line}: {}", Wrong(fault)),
+fn print_number(out: &mut impl Write, number: u32) {
+    streams::print_decimal(out, u64::from(number));
+}
+
+// What the rules give at a place, as its four numbers.
+fn print_due(out: &mut impl Write, place: u32, due: Output) {
+    print(out, b"0 ");
+    print_number(out, place);
+    for number in schedule::values(due) {
+        print(out, b" ");
+        print_number(out, number);
+    }
+    print(out, b"\n");
+}
+
+fn print_verdict(out: &mut impl Write, verdict: Verdict) {
+    match verdict {
+        Verdict::Yes => print(out, b"0 yes\n"),
+        Verdict::Differs(place, due) => print_due(out, place, due),
+        Verdict::Nothing(place) => {
+            print(out, b"0 ");
+            print_number(out, place);
+            print(out, b" nothing\n");
         }
     }
 }
 
-// What is wrong with a line, as it is written.
-#[derive(Clone, Copy)]
-struct Wrong(Fault);
+// What is wrong with a line, behind its number.
+fn print_fault(out: &mut impl Write, fault: Fault) {
+    match fault {
+        Fault::NoParity => print(out, b": no parity\n"),
+        Fault::NoWord => print(out, b": no word\n"),
+        Fault::NoEntry => print(out, b": no async word and no output\n"),
+        Fault::NoRoom => {
+            print(out, b": no room for more than ");
+            streams::print_decimal(out, room::ASYNC_WORDS as u64);
+            print(out, b" async words\n");
+        }
+    }
+}
 
-impl fmt::Display for Wrong {
-    fn fmt<W: fmt::Write>(&self, f: &mut fmt::Formatter<W>) -> fmt::Result {
-        match self.0 {
-            Fault::NoParity => write!(f, "no parity"),
-            Fault::NoWord => write!(f, "no word"),
-            Fault::NoEntry => write!(f, "no async word and no output"),
-            Fault::NoRoom => write!(f, "no room for more than {} async words", room::ASYNC_WORDS),
+// What is said of a card, as a line.
+fn print_answer(out: &mut impl Write, answer: Result<Verdict, CardError>) {
+    match answer {
+        Ok(verdict) => print_verdict(out, verdict),
+        Err(CardError::Refused(refusal)) => {
+            print_number(out, refusal.into());
+            print(out, b" 0\n");
+        }
+        Err(CardError::WrongLine(fault, line)) => {
+            print(out, b"line ");
+            streams::print_decimal(out, line);
+            print_fault(out, fault);
         }
     }
 }
@@ -52,6 +80,8 @@ fn main(rt: HostRuntime) {
         at = reading::text_taken(&mut words, &mut asyncs, &mut outputs, at, text);
     });
     at = reading::finished(&mut words, &mut asyncs, &mut outputs, at);
-    let answer = Answer(judging::answered(&words, &asyncs, &outputs, at));
-    let _ = writeln!(rt.stdout(), "{answer}");
+    print_answer(
+        &mut rt.stdout(),
+        judging::answered(&words, &asyncs, &outputs, at),
+    );
 }

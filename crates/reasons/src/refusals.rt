@@ -2,8 +2,6 @@
 ghost use Rattle.std.specs.Prelude.{◌≡◌};
 ghost use Rattle.reasons.specs.Refusals.{number_of};
 
-use std::fmt;
-
 #[derive(Clone, Copy)]
 pub enum Refusal {
     // The working memory has too few words for so many channels.
@@ -29,18 +27,5 @@ impl From<Refusal> for u32 {
             Refusal::TooManyItems => 41,
             Refusal::NoCall => calls::perform::NO_CALL,
         }
-    }
-}
-
-// What it means, as a sentence.
-impl fmt::Display for Refusal {
-    fn fmt<W: fmt::Write>(&self, f: &mut fmt::Formatter<W>) -> fmt::Result {
-        f.write_str(match self {
-            Refusal::TooShort => "The working memory is too short for that many channels.",
-            Refusal::NoCount => "The channel count must be 1 to 12.",
-            Refusal::TooManyItems => "The list has more than 4096 calls.",
-            Refusal::NoCall => "An item of the list is no call, or the last one is cut short.",
-            Refusal::NoArrival => "There is no arrival at that place of the list.",
-        })
     }
 }
