@@ -9,30 +9,56 @@ use ring::{LAST_SLOT, SLOTS};
 // The greatest mask: all seven conditions.
 pub const ALL_CONDITIONS: u32 = 127;
 
-const RANGES: [(u32, u32); RANGED] = [
-    (0, 1), // receiver
-    (0, 1), // transmitter
-    (0, 1), // parity
-    (0, 1), // match
-    (0, 1), // stamps
-    (0, 1), // receive mode
-    (0, 1), // FIFO kind
-    (0, 2), // transmit mode
-    (1, SLOTS), // receive FIFO size
-    (0, SLOTS), // almost full threshold
-    (0, SLOTS), // almost empty threshold
-    (word::Gap::LEAST, word::Gap::GREATEST), // transmit rate
-    (0, SLOTS), // receive level
-    (0, LAST_SLOT), // receive position
-    (0, SLOTS), // transmit level
-    (0, LAST_SLOT), // transmit position
-    (0, 2), // transmitter state
-    (0, schedule::LAST), // command address
-    (0, 1), // async mark
-    (0, ALL_CONDITIONS), // latch mask
-    (0, ALL_CONDITIONS), // enable mask
-    (0, ALL_CONDITIONS), // level mask
-    (0, 1), // message mark
+const LEAST: [u32; RANGED] = [
+    0, // receiver
+    0, // transmitter
+    0, // parity
+    0, // match
+    0, // stamps
+    0, // receive mode
+    0, // FIFO kind
+    0, // transmit mode
+    1, // receive FIFO size
+    0, // almost full threshold
+    0, // almost empty threshold
+    word::Gap::LEAST, // transmit rate
+    0, // receive level
+    0, // receive position
+    0, // transmit level
+    0, // transmit position
+    0, // transmitter state
+    0, // command address
+    0, // async mark
+    0, // latch mask
+    0, // enable mask
+    0, // level mask
+    0, // message mark
+];
+
+const GREATEST: [u32; RANGED] = [
+    1, // receiver
+    1, // transmitter
+    1, // parity
+    1, // match
+    1, // stamps
+    1, // receive mode
+    1, // FIFO kind
+    2, // transmit mode
+    SLOTS, // receive FIFO size
+    SLOTS, // almost full threshold
+    SLOTS, // almost empty threshold
+    word::Gap::GREATEST, // transmit rate
+    SLOTS, // receive level
+    LAST_SLOT, // receive position
+    SLOTS, // transmit level
+    LAST_SLOT, // transmit position
+    2, // transmitter state
+    schedule::LAST, // command address
+    1, // async mark
+    ALL_CONDITIONS, // latch mask
+    ALL_CONDITIONS, // enable mask
+    ALL_CONDITIONS, // level mask
+    1, // message mark
 ];
 
 // Whether a number is in the range of the word at an offset.
@@ -40,8 +66,7 @@ pub fn in_range(at: usize, value: u32) -> bool
     requires { at < ranged }
     ensures { result ≡ in_range at value }
 {
-    let (least, greatest) = RANGES[at];
-    (least <= value) & (value <= greatest)
+    (LEAST[at] <= value) & (value <= GREATEST[at])
 }
 
 // Whether every stored number of a block is in its range. Every word is tested, with no branch between them, and the settings and the other
