@@ -1,4 +1,5 @@
 pub mod Refusals
+pub mod Sentences
 pub mod Question
 pub mod Followed
 pub mod Explained
